@@ -1,0 +1,6 @@
+pub mod Words
+pub mod Grammar
+pub mod Table
+pub mod Occurrences
+pub mod Services
+pub mod Samples

@@ -1,0 +1,155 @@
+-- What each service answers and leaves in the slices lent to it (document 01, "When a request is turned down").
+-- A service's checks are an ordered list; the first that is met decides number, place and what becomes of the work slice.
+use Prim.Native.Nat.{ℕ, zero, suc, _+_, _/_, _%_}
+use mathlib.Core.Bool.{Bool, true, false, cond, not, _||_}
+use mathlib.Core.List.{List, [], _∷_, _++_}
+use lib.ListN.{length, take, drop, replicate}
+use lib.Dec.{ltb, eqb}
+use Rattle.definitions.specs.declared.Order.{Order}
+use Rattle.definitions.specs.declared.Answer.{Answer}
+use Rattle.definitions.specs.declared.Answer.the-variants as answer
+use Rattle.definitions.specs.declared.Reading.{Reading}
+use Rattle.definitions.specs.declared.Reading.the-variants as reading
+use Rattle.definitions.specs.declared.Search.{Search}
+use Rattle.definitions.specs.Words.{least, placed}
+use Rattle.definitions.specs.Table.{tableOf, badWord, isTable, textOf, chairOf}
+use Rattle.definitions.specs.Occurrences.{occurrences, patternCuts}
+
+-- ---- outcomes
+
+-- number: 0 on success, else the refusal's; place; count: the number that success gives, 0 in a refusal; chair: what reading adds, else 0
+pub record Outcome : Type 0 where
+  pub number : ℕ
+  pub place : ℕ
+  pub count : ℕ
+  pub chair : ℕ
+
+abbrev pub done : ℕ → ℕ → Outcome
+done count chair = record { number = 0; place = 0; count = count; chair = chair }
+
+abbrev pub refused : ℕ → ℕ → Outcome
+refused number place = record { number = number; place = place; count = 0; chair = 0 }
+
+-- the outcome that each answer stands for
+unfoldable pub outcomeOf : Answer → Outcome
+outcomeOf (answer.Done n) = done n 0
+outcomeOf (answer.Refused number place) = refused number place
+
+unfoldable pub readingOutcome : Reading → Outcome
+readingOutcome (reading.Done n chair) = done n chair
+readingOutcome (reading.Refused number place) = refused number place
+
+unfoldable pub searchOutcome : Search → Outcome
+searchOutcome s = outcomeOf (s .answer)
+
+-- ---- checks
+
+pub record Check : Type 0 where
+  pub met : Bool
+  pub number : ℕ
+  pub place : ℕ
+  pub clears : Bool
+
+abbrev pub check : Bool → ℕ → ℕ → Bool → Check
+check met number place clears = record { met = met; number = number; place = place; clears = clears }
+
+-- a service: its checks in order, and where none is met what it answers and writes
+pub record Service : Type 0 where
+  pub checks : List Check
+  pub success : Outcome
+  pub written : List ℕ
+
+-- the first check that is met decides
+unfoldable pub firstMet {ℓ} : {A : Type ℓ} → List Check → (Check → A) → A → A
+firstMet [] refusal success = success
+firstMet (c ∷ checks) refusal success = cond (c .met) (refusal c) (firstMet checks refusal success)
+
+unfoldable pub outcome : Service → Outcome
+outcome s = firstMet (s .checks) (λ c. refused (c .number) (c .place)) (s .success)
+
+-- a refusal leaves the result slice as it is; success writes at its front
+unfoldable pub resultAfter : Service → List ℕ → List ℕ
+resultAfter s result = firstMet (s .checks) (λ c. result) (placed (s .written) result)
+
+-- the work slice with its first 16,384 words zero
+unfoldable pub cleared : List ℕ → List ℕ
+cleared work = placed (replicate 16384 0) work
+
+unfoldable pub workAfter : Service → List ℕ → List ℕ
+workAfter s work = firstMet (s .checks) (λ c. cond (c .clears) (cleared work) work) (cleared work)
+
+-- ---- the checks, by number
+
+abbrev pub textTooLong : List ℕ → Check
+textTooLong text = check (ltb 2047 (length text)) 1 0 false
+
+abbrev pub patternEmpty : List ℕ → Check
+patternEmpty p = check (eqb (length p) 0) 2 0 false
+
+abbrev pub patternTooLong : List ℕ → Check
+patternTooLong p = check (ltb 2047 (length p)) 3 0 false
+
+abbrev pub workTooShort : ℕ → Check
+workTooShort n = check (ltb n 16384) 4 0 false
+
+abbrev pub tableLength : List ℕ → Check
+tableLength t = check (eqb (length t) 0 || (eqb (length t % 2) 1 || ltb 4608 (length t))) 5 0 false
+
+abbrev pub hasBadWord : List ℕ → Check
+hasBadWord t = let i = least (badWord t) (length t) in check (ltb i (length t)) 6 i false
+
+abbrev pub notATable : Order → List ℕ → Check
+notATable o t = check (not (isTable o t)) 7 0 true
+
+abbrev pub rangePastEnd : List ℕ → ℕ → ℕ → Check
+rangePastEnd text start count = check (ltb (length text) (start + count)) 8 0 true
+
+abbrev pub resultTooShort : ℕ → ℕ → Check
+resultTooShort needed n = check (ltb n needed) 9 needed true
+
+-- ---- the services: t is a table, n and m are the lengths of the work slice and of the result slice
+
+-- what a table that is handed over must pass
+unfoldable pub tableChecks : Order → List ℕ → ℕ → List Check
+tableChecks o t n = workTooShort n ∷ tableLength t ∷ hasBadWord t ∷ notATable o t ∷ []
+
+unfoldable pub patternChecks : List ℕ → List Check
+patternChecks p = patternEmpty p ∷ patternTooLong p ∷ []
+
+-- success gives the number of entries written
+abbrev pub writes : List Check → ℕ → List ℕ → ℕ → Service
+writes checks m l chair =
+    record { checks = checks ++ (resultTooShort (length l) m ∷ []); success = done (length l) chair; written = l }
+
+-- build the table of a drive and a chair number
+unfoldable pub buildService : Order → List ℕ → ℕ → ℕ → ℕ → Service
+buildService o text chair n m = writes (textTooLong text ∷ workTooShort n ∷ []) m (tableOf o text chair) 0
+
+-- check a table: success gives the number of rules
+unfoldable pub checkService : Order → List ℕ → ℕ → Service
+checkService o t n = record { checks = tableChecks o t n; success = done (length t / 2) 0; written = [] }
+
+-- read a table back
+unfoldable pub readService : Order → List ℕ → ℕ → ℕ → Service
+readService o t n m = writes (tableChecks o t n) m (textOf o t) (chairOf t)
+
+-- read the part of a drive that begins at start and has count samples
+unfoldable pub extractService : Order → List ℕ → ℕ → ℕ → ℕ → ℕ → Service
+extractService o t start count n m =
+    writes (tableChecks o t n ++ (rangePastEnd (textOf o t) start count ∷ [])) m (take count (drop start (textOf o t))) 0
+
+-- count the occurrences of a pattern
+unfoldable pub countService : Order → List ℕ → List ℕ → ℕ → Service
+countService o t p n =
+    record
+    { checks = patternChecks p ++ tableChecks o t n
+    ; success = done (length (occurrences p (textOf o t))) 0
+    ; written = [] }
+
+-- list the occurrences of a pattern
+unfoldable pub locateService : Order → List ℕ → List ℕ → ℕ → ℕ → Service
+locateService o t p n m = writes (patternChecks p ++ tableChecks o t n) m (occurrences p (textOf o t)) 0
+
+-- list the live cuts of a pattern
+unfoldable pub cutsService : Order → List ℕ → ℕ → Service
+cutsService o p m = writes (patternChecks p) m (patternCuts o p) 0

@@ -1,0 +1,44 @@
+-- Strings as values: `same` decides equality, and `begins` that one string is a prefix of another.
+use mathlib.Core.Path.{_≡_, refl, sym, _∙_, ap, ap₂, subst}
+use mathlib.Core.Bool.{Bool, true, false, _&&_, false≢true}
+use mathlib.Core.List.{List, [], _∷_, _++_, append-assoc, append-nil, tail-eq-of-cons-eq, head-eq-of-cons-eq, nil≢cons}
+use Prim.Native.Nat.{ℕ, zero, suc, _+_, _-_, _≤_, _<_}
+use native.Mathlib.Omega.{arith}
+use lib.ListN.{length, take, drop, length-append}
+use lib.Dec.{eqb}
+use borrow.Author.Tests.{eqb-true, eq-eqb}
+use Rattle.definitions.specs.Words.{same, begins}
+use Rattle.lists.specs.Bools.{and-left, and-right, and-intro, bool-ext}
+
+pub same-eq : (x y : List ℕ) → same x y ≡ true → x ≡ y
+unfolding same
+same-eq [] [] e = refl
+same-eq [] (b ∷ y) e = absurd (false≢true e)
+same-eq (a ∷ x) [] e = absurd (false≢true e)
+same-eq (a ∷ x) (b ∷ y) e =
+    ap₂ {C = List ℕ} (λ c l. c ∷ l) (eqb-true a b (and-left (eqb a b) (same x y) e)) (same-eq x y (and-right (eqb a b) (same x y) e))
+
+pub same-self : (x : List ℕ) → same x x ≡ true
+unfolding same
+same-self [] = refl
+same-self (a ∷ x) = and-intro (eqb a a) (same x x) (eq-eqb a a refl) (same-self x)
+
+pub eq-same : (x y : List ℕ) → x ≡ y → same x y ≡ true
+eq-same x y e = rw e (same-self y)
+
+-- s begins with p exactly when s is p and a rest
+pub begins-rest : (p s : List ℕ) → begins p s ≡ true → (r : List ℕ) × (s ≡ p ++ r)
+unfolding begins
+begins-rest [] s e = (s, refl)
+begins-rest (a ∷ p) [] e = absurd (false≢true e)
+begins-rest (a ∷ p) (b ∷ s) e =
+    let (r, q) = begins-rest p s (and-right (eqb a b) (begins p s) e) in
+    (r, ap₂ {C = List ℕ} (λ c l. c ∷ l) (sym (eqb-true a b (and-left (eqb a b) (begins p s) e))) q)
+
+pub begins-append : (p r : List ℕ) → begins p (p ++ r) ≡ true
+unfolding begins
+begins-append [] r = refl
+begins-append (a ∷ p) r = and-intro (eqb a a) (begins p (p ++ r)) (eq-eqb a a refl) (begins-append p r)
+
+pub rest-begins : (p s r : List ℕ) → s ≡ p ++ r → begins p s ≡ true
+rest-begins p s r e = rw e (begins-append p r)
