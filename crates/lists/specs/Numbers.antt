@@ -124,6 +124,51 @@ below-split f g h a (suc n) p q =
         rw (q n (omega arith) l .0, q n (omega arith) l .1, append-nil, ← append-assoc)
         (ap (λ (x : List ℕ). x ++ cond (h n) (n ∷ []) []) e)
 
+-- ---- how many numbers pass
+
+pub below-length : (f : ℕ → Bool) (n : ℕ) → length (below f n) ≤ n
+unfolding below
+below-length f zero = omega arith
+below-length f (suc n) = go (f n) refl (below-length f n)
+  where
+    go : (b : Bool) → f n ≡ b → length (below f n) ≤ n → length (below f n ++ cond (f n) (n ∷ []) []) ≤ suc n
+    go true e ih = rw e (simp length-append (omega arith))
+    go false e ih = rw (e, append-nil) (omega arith)
+
+-- what passes f passes g: there are at least as many
+pub count-le : (f g : ℕ → Bool) (n : ℕ) → ((k : ℕ) → k < n → f k ≡ true → g k ≡ true) → length (below f n) ≤ length (below g n)
+unfolding below
+count-le f g zero h = omega arith
+count-le f g (suc n) h = go (f n) refl (g n) refl (count-le f g n (λ k l. h k (omega arith)))
+  where
+    go : (b : Bool) → f n ≡ b → (c : Bool) → g n ≡ c → length (below f n) ≤ length (below g n)
+        → length (below f n ++ cond (f n) (n ∷ []) []) ≤ length (below g n ++ cond (g n) (n ∷ []) [])
+    go true e true d ih = rw (e, d) (simp length-append (omega arith))
+    go true e false d ih = contra (h n (omega arith) e) d
+    go false e true d ih = rw (e, d) (simp length-append (omega arith))
+    go false e false d ih = rw (e, d) (simp length-append (omega arith))
+
+-- and more, where g holds of a number of which f does not
+pub count-lt : (f g : ℕ → Bool) (n a : ℕ) → a < n → f a ≡ false → g a ≡ true → ((k : ℕ) → k < n → f k ≡ true → g k ≡ true)
+    → length (below f n) < length (below g n)
+unfolding below
+count-lt f g zero a l p q h = absurd (omega arith)
+count-lt f g (suc n) a l p q h = split-lt a n
+    (λ m. old (count-lt f g n a m p q (λ k j. h k (omega arith))) (f n) refl (g n) refl)
+    (λ e. new (subst (λ (k : ℕ). f k ≡ false) e p) (subst (λ (k : ℕ). g k ≡ true) e q) (count-le f g n (λ k j. h k (omega arith))))
+    (λ m. absurd (omega arith))
+  where
+    old : length (below f n) < length (below g n) → (b : Bool) → f n ≡ b → (c : Bool) → g n ≡ c
+        → length (below f n ++ cond (f n) (n ∷ []) []) < length (below g n ++ cond (g n) (n ∷ []) [])
+    old ih true e true d = rw (e, d) (simp length-append (omega arith))
+    old ih true e false d = contra (h n (omega arith) e) d
+    old ih false e true d = rw (e, d) (simp length-append (omega arith))
+    old ih false e false d = rw (e, d) (simp length-append (omega arith))
+
+    new : f n ≡ false → g n ≡ true → length (below f n) ≤ length (below g n)
+        → length (below f n ++ cond (f n) (n ∷ []) []) < length (below g n ++ cond (g n) (n ∷ []) [])
+    new e d ih = rw (e, d) (simp length-append (omega arith))
+
 -- ---- least
 
 -- the step of `least`, by its two outcomes

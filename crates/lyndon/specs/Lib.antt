@@ -4,3 +4,4 @@ pub mod Factorization
 pub mod Trees
 pub mod Forest
 pub mod Numbering
+pub mod Orders
