@@ -5,3 +5,5 @@ pub mod Trees
 pub mod Forest
 pub mod Numbering
 pub mod Orders
+pub mod Rules
+pub mod Closings

@@ -25,11 +25,11 @@ Has S x = indexOf x S < length S
 
 -- ---- the index of a string
 
-index-found : (x y : List ℕ) (S : List (List ℕ)) → same x y ≡ true → indexOf x (y ∷ S) ≡ 0
+pub index-found : (x y : List ℕ) (S : List (List ℕ)) → same x y ≡ true → indexOf x (y ∷ S) ≡ 0
 unfolding indexOf
 index-found x y S e = rw (e, indexOf)
 
-index-later : (x y : List ℕ) (S : List (List ℕ)) → same x y ≡ false → indexOf x (y ∷ S) ≡ suc (indexOf x S)
+pub index-later : (x y : List ℕ) (S : List (List ℕ)) → same x y ≡ false → indexOf x (y ∷ S) ≡ suc (indexOf x S)
 unfolding indexOf
 index-later x y S e = rw (e, indexOf)
 

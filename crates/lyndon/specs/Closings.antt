@@ -1,0 +1,136 @@
+-- One number a symbol says the tree: how many joins close right behind it. The right-to-left pass adds one at the last symbol of
+-- the right part at each join (`merge-closings`); the left-to-right pass pushes a symbol's rule and then joins the two top rules
+-- that many times, and so gives the rules of the definition (`run-rules`).
+use mathlib.Core.Path.{_≡_, refl, sym, _∙_, ap, ap₂, subst}
+use mathlib.Core.Bool.{Bool, true, false}
+use mathlib.Core.List.{List, [], _∷_, _++_, append-assoc, append-nil}
+use Prim.Native.Nat.{ℕ, zero, suc, _+_, _≤_, _<_}
+use native.Mathlib.Omega.{arith}
+use lib.ListN.{length, length-append}
+use Rattle.definitions.specs.Grammar.{Tree, leaf, node, word, lyndonTree, Rule, symbol, pair, rulesOf}
+use Rattle.lyndon.specs.Words.{Lyndon}
+use Rattle.lyndon.specs.Trees.{word-filled, tree-of}
+use Rattle.lyndon.specs.Forest.{forest, forest-one, spells}
+use Rattle.lyndon.specs.Rules.{find, intern, number, number-rules}
+
+-- the joins that close behind each symbol of a tree, and k more behind its last
+unfoldable pub closings : ℕ → Tree → List ℕ
+closings k (leaf a) = k ∷ []
+closings k (node l r) = closings 0 l ++ closings (suc k) r
+
+-- those of a forest
+unfoldable pub closingsOf : List Tree → List ℕ
+closingsOf [] = []
+closingsOf (t ∷ f) = closings 0 t ++ closingsOf f
+
+unfoldable pub total : List ℕ → ℕ
+total [] = 0
+total (n ∷ l) = n + total l
+
+pub total-append : (l m : List ℕ) → total (l ++ m) ≡ total l + total m
+unfolding total
+total-append [] m = omega arith
+total-append (n ∷ l) m = omega (arith, total-append l m)
+
+pub closings-length : (k : ℕ) (t : Tree) → length (closings k t) ≡ length (word t)
+unfolding closings word
+closings-length k (leaf a) = refl
+closings-length k (node l r) = simp length-append (ap₂ {C = ℕ} (λ m n. m + n) (closings-length 0 l) (closings-length (suc k) r))
+
+-- a tree has one join less than symbols
+closings-total : (k : ℕ) (t : Tree) → suc (total (closings k t)) ≡ length (word t) + k
+unfolding closings word total
+closings-total k (leaf a) = omega arith
+closings-total k (node l r) =
+    let il = closings-total 0 l in
+    let ir = closings-total (suc k) r in
+    simp (length-append, total-append) (omega arith)
+
+-- closings and trees of a forest are together as many as its symbols
+pub forest-total : (f : List Tree) → total (closingsOf f) + length f ≡ length (spells f)
+unfolding closingsOf total spells
+forest-total [] = omega arith
+forest-total (t ∷ f) =
+    let ih = forest-total f in
+    let it = closings-total 0 t in
+    simp (length-append, total-append) (omega arith)
+
+pub closingsOf-length : (f : List Tree) → length (closingsOf f) ≡ length (spells f)
+unfolding closingsOf spells
+closingsOf-length [] = refl
+closingsOf-length (t ∷ f) = simp length-append (ap₂ {C = ℕ} (λ m n. m + n) (closings-length 0 t) (closingsOf-length f))
+
+-- one more behind the last symbol
+unfoldable pub bump : List ℕ → List ℕ
+bump [] = []
+bump (n ∷ []) = suc n ∷ []
+bump (n ∷ m ∷ l) = n ∷ bump (m ∷ l)
+
+bump-append : (l m : List ℕ) → 0 < length m → bump (l ++ m) ≡ l ++ bump m
+unfolding bump
+bump-append [] m h = refl
+bump-append (n ∷ []) [] h = absurd (omega arith)
+bump-append (n ∷ []) (a ∷ m) h = refl
+bump-append (n ∷ k ∷ l) m h = ap {B = List ℕ} (λ x. n ∷ x) (bump-append (k ∷ l) m h)
+
+closings-bump : (k : ℕ) (t : Tree) → closings (suc k) t ≡ bump (closings k t)
+unfolding closings bump
+closings-bump k (leaf a) = refl
+closings-bump k (node l r) =
+    ap (λ (x : List ℕ). closings 0 l ++ x) (closings-bump (suc k) r)
+    ∙ sym (bump-append (closings 0 l) (closings (suc k) r) (omega (arith, closings-length (suc k) r, word-filled r)))
+
+-- at a join the right part gets one more behind its last symbol
+pub merge-closings : (l r : Tree) → closings 0 (node l r) ≡ closings 0 l ++ bump (closings 0 r)
+unfolding closings
+merge-closings l r = ap (λ (x : List ℕ). closings 0 l ++ x) (closings-bump 0 r)
+
+-- ---- the machine: rules so far, and a stack of rule numbers, the top first
+
+pub record State : Type 0 where
+  pub rules : List Rule
+  pub stack : List ℕ
+
+abbrev pub start : State
+start = record { rules = []; stack = [] }
+
+-- add a rule and push its number
+unfoldable pub push : List Rule → Rule → List ℕ → State
+push K x stack = record { rules = intern K x; stack = find x K ∷ stack }
+
+-- join the two rules on top
+unfoldable pub joinTop : List Rule → List ℕ → State
+joinTop K [] = record { rules = K; stack = [] }
+joinTop K (j ∷ []) = record { rules = K; stack = j ∷ [] }
+joinTop K (j ∷ i ∷ stack) = push K (pair i j) stack
+
+unfoldable pub joins : ℕ → State → State
+joins zero s = s
+joins (suc k) s = joins k (joinTop (s .rules) (s .stack))
+
+-- symbol after symbol, with its closings
+unfoldable pub run : State → List ℕ → List ℕ → State
+run s [] c = s
+run s (a ∷ w) [] = s
+run s (a ∷ w) (k ∷ c) = run (joins k (push (s .rules) (symbol a) (s .stack))) w c
+
+-- the state once a tree is numbered and its root's rule is pushed
+unfoldable pub pushed : State → Tree → State
+pushed s t = record { rules = number (s .rules) t .0; stack = number (s .rules) t .1 ∷ s .stack }
+
+run-tree : (s : State) (k : ℕ) (t : Tree) (w c : List ℕ) → run s (word t ++ w) (closings k t ++ c) ≡ run (joins k (pushed s t)) w c
+unfolding run closings word pushed number push joinTop joins
+run-tree s k (leaf a) w c = refl
+run-tree s k (node l r) w c =
+    rw (append-assoc (word l) (word r) w, append-assoc (closings 0 l) (closings (suc k) r) c)
+    (run-tree s 0 l (word r ++ w) (closings (suc k) r ++ c) ∙ run-tree (pushed s l) (suc k) r w c)
+
+-- running over a Lyndon word with its forest's closings numbers its rules
+pub run-rules : (w : List ℕ) → Lyndon w → run start w (closingsOf (forest w)) .rules ≡ rulesOf w
+unfolding closingsOf run joins pushed
+run-rules w h =
+    let t = lyndonTree w in
+    let e : run start w (closingsOf (forest w)) ≡ pushed start t
+            = ap₂ {C = State} (λ x f. run start x (closingsOf f)) (sym (tree-of w h .1) ∙ sym (append-nil (word t))) (forest-one w h)
+            ∙ run-tree start 0 t [] [] in
+    ap (λ (s : State). s .rules) e ∙ number-rules w h
