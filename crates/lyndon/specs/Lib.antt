@@ -7,3 +7,5 @@ pub mod Numbering
 pub mod Orders
 pub mod Rules
 pub mod Closings
+pub mod Ranks
+pub mod Tables

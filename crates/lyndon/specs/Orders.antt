@@ -24,20 +24,23 @@ meet-cases S x y h = split-le (length S) (indexOf x S)
     (λ k. index-cases y x S (rw (meet-new S x k) at h))
     (λ k. inl (rw (meet-old S x k) at h))
 
--- ---- the root's string is the last
-
--- strings of at most n symbols stay such
-visit-short : (n : ℕ) (S : List (List ℕ)) (t : Tree) → ((x : List ℕ) → Has S x → length x ≤ n) → length (word t) ≤ n
-    → (x : List ℕ) → Has (visit S t) x → length x ≤ n
+-- what holds of a tree's word and of the two halves of whatever it holds of holds of every string that visiting adds
+pub visit-all : (P : List ℕ → Type 0) → ((u v : List ℕ) → P (u ++ v) → P u × P v) → (S : List (List ℕ)) (t : Tree)
+    → ((x : List ℕ) → Has S x → P x) → P (word t) → (x : List ℕ) → Has (visit S t) x → P x
 unfolding visit word
-visit-short n S (leaf a) s h x k = ⊎-elim (λ l. s x l) (λ e. rw e h) (meet-cases S (a ∷ []) x k)
-visit-short n S (node l r) s h x k = ⊎-elim
-    (λ m. visit-short n (visit S l) r (visit-short n S l s (omega (arith, size))) (omega (arith, size)) x m)
-    (λ e. rw e h)
+visit-all P halves S (leaf a) s h x k = ⊎-elim (λ l. s x l) (λ e. subst P (sym e) h) (meet-cases S (a ∷ []) x k)
+visit-all P halves S (node l r) s h x k = ⊎-elim
+    (λ m. visit-all P halves (visit S l) r (visit-all P halves S l s (halves (word l) (word r) h .0)) (halves (word l) (word r) h .1) x m)
+    (λ e. subst P (sym e) h)
     (meet-cases (visit (visit S l) r) (word l ++ word r) x k)
-  where
-    size : length (word l ++ word r) ≡ length (word l) + length (word r)
-    size = length-append (word l) (word r)
+
+pub order-all : (P : List ℕ → Type 0) → ((u v : List ℕ) → P (u ++ v) → P u × P v) → (w : List ℕ) → Lyndon w → P w
+    → (x : List ℕ) → Has (order w) x → P x
+unfolding order
+order-all P halves w h p x k =
+    visit-all P halves [] (lyndonTree w) (λ y m. absurd (omega arith)) (subst P (sym (tree-of w h .1)) p) x k
+
+-- ---- the root's string is the last
 
 -- a whole tree's strings: those of its parts, and its word as the last
 visit-last : (t : Tree) → (S : List (List ℕ)) × (visit [] t ≡ S ++ (word t ∷ []))
@@ -53,8 +56,11 @@ visit-last (node l r) =
     old h n e =
         let pl = word-filled l in
         let pr = word-filled r in
-        let short = visit-short n (visit [] l) r (visit-short n [] l (λ x k. absurd (omega arith)) (omega arith)) (omega arith) (word l ++ word r) h in
+        let short = visit-all (λ x. length x ≤ n) halves (visit [] l) r (visit-all (λ x. length x ≤ n) halves [] l (λ x k. absurd (omega arith)) (omega arith)) (omega arith) (word l ++ word r) h in
         absurd (omega (arith, simp length-append at short))
+      where
+        halves : (u v : List ℕ) → length (u ++ v) ≤ n → (length u ≤ n) × (length v ≤ n)
+        halves u v k = let sum = length-append u v in (omega arith, omega arith)
 
 pub order-last : (w : List ℕ) → Lyndon w → (S : List (List ℕ)) × (order w ≡ S ++ (w ∷ []))
 unfolding order
