@@ -106,6 +106,17 @@ below-append f n (suc m) = rw (add-suc, below-append f n m, append-assoc) (ap (�
     step true = map-append (λ (k : ℕ). n + k) (below (λ k. f (n + k)) m) (m ∷ [])
     step false = map-append (λ (k : ℕ). n + k) (below (λ k. f (n + k)) m) []
 
+-- the list below n + 1: 0 if it passes, and what passes from 1 on
+pub below-shift : (f : ℕ → Bool) (n : ℕ) → below f (suc n) ≡ cond (f 0) (0 ∷ []) [] ++ map suc (below (λ k. f (suc k)) n)
+unfolding below
+below-shift f zero = sym (append-nil (cond (f 0) (0 ∷ []) []))
+below-shift f (suc n) =
+    rw (below-shift f n, append-assoc) (ap (λ (l : List ℕ). cond (f 0) (0 ∷ []) [] ++ l) (sym (step (f (suc n)))))
+  where
+    step : (b : Bool) → map suc (below (λ k. f (suc k)) n ++ cond b (n ∷ []) []) ≡ map suc (below (λ k. f (suc k)) n) ++ cond b (suc n ∷ []) []
+    step true = map-append (λ (k : ℕ). suc k) (below (λ k. f (suc k)) n) (n ∷ [])
+    step false = map-append (λ (k : ℕ). suc k) (below (λ k. f (suc k)) n) []
+
 -- where g speaks of the numbers below a and h of those from a on, the list of both is the one and then the other
 pub below-split : (f g h : ℕ → Bool) (a n : ℕ) → ((k : ℕ) → k < n → k < a → (f k ≡ g k) × (h k ≡ false))
     → ((k : ℕ) → k < n → a ≤ k → (f k ≡ h k) × (g k ≡ false)) → below f n ≡ below g n ++ below h n

@@ -9,3 +9,5 @@ pub mod Rules
 pub mod Closings
 pub mod Ranks
 pub mod Tables
+pub mod Reading
+pub mod Occurrences

@@ -1,0 +1,143 @@
+-- Occurrences: a position stands in the list exactly when the pattern begins there (`occurrence-is`, `is-occurrence`), rising, each once
+-- (`occurrences-rising`), none before the first, between two neighbours or after the last, and the list is empty exactly when the
+-- pattern begins nowhere. Those in mark ++ text are those in the text, one further on (`occurrences-marked`).
+use mathlib.Core.Path.{_≡_, refl, sym, _∙_, ap, ap₂, subst}
+use mathlib.Core.Bool.{Bool, true, false, cond, _&&_, false≢true}
+use mathlib.Core.Logic.{_⊎_, inl, inr, ⊎-elim, _↔_}
+use mathlib.Core.List.{List, [], _∷_, _++_, map, append-assoc, append-nil, List·Memᴰ as In, List·Memᴰ·head as here, List·Memᴰ·tail as there, List·Memᴰ·not-nil as in-nil, List·Memᴰ·append-cases as in-append, Memᴰ·append-right as in-right, List·Memᴰ·cases-cons as in-cons}
+use Prim.Native.Nat.{ℕ, zero, suc, _+_, _-_, _≤_, _<_}
+use native.Mathlib.Omega.{arith}
+use lib.ListN.{length, take, drop, length-append, length-drop, length-take, length-map, take-append-drop, drop-of-length-le}
+use lib.Seq.{take-append-seam}
+use lib.Dec.{eqb}
+use borrow.Author.Tests.{eqb-true, eq-eqb, ne-eqb}
+use Rattle.definitions.specs.declared.Order.{Order}
+use Rattle.definitions.specs.Words.{below, begins}
+use Rattle.definitions.specs.Table.{rankOf, byteOf, marked}
+use Rattle.definitions.specs.Occurrences.{occurrences}
+use Rattle.lists.specs.Bools.{either, contra, bool-ext, not-so}
+use Rattle.lists.specs.Numbers.{split-le, split-lt, Rising, below-in, below-lt, below-rising, below-ext, below-shift}
+use Rattle.lists.specs.Strings.{begins-rest, begins-append, rest-begins}
+use Rattle.lyndon.specs.Ranks.{Bytes, byte-of-rank, rank-range}
+
+-- p begins at place i of s
+abbrev pub BeginsAt : List ℕ → List ℕ → ℕ → Type 0
+BeginsAt p s i = (i + length p ≤ length s) × (take (length p) (drop i s) ≡ p)
+
+pub begins-at : (p s : List ℕ) (i : ℕ) → i ≤ length s → begins p (drop i s) ≡ true → BeginsAt p s i
+begins-at p s i h e =
+    let (r, q) = begins-rest p (drop i s) e in
+    ( omega (arith, simp (length-append, length-drop) at (ap length q))
+    , ap (take (length p)) q ∙ take-append-seam p r)
+
+pub at-begins : (p s : List ℕ) (i : ℕ) → BeginsAt p s i → begins p (drop i s) ≡ true
+at-begins p s i (h, e) =
+    rest-begins p (drop i s) (drop (length p) (drop i s))
+    (sym (take-append-drop (length p) (drop i s)) ∙ ap (λ (x : List ℕ). x ++ drop (length p) (drop i s)) e)
+
+-- ---- a position is listed exactly when the pattern begins there
+
+pub occurrence-is : (p s : List ℕ) (i : ℕ) → In i (occurrences p s) → BeginsAt p s i
+unfolding occurrences
+occurrence-is p s i m =
+    let (l, e) = below-lt (λ k. begins p (drop k s)) (suc (length s)) i m in
+    begins-at p s i (omega arith) e
+
+pub is-occurrence : (p s : List ℕ) (i : ℕ) → BeginsAt p s i → In i (occurrences p s)
+unfolding occurrences
+is-occurrence p s i h = below-in (λ k. begins p (drop k s)) (suc (length s)) i (omega (arith, h .0)) (at-begins p s i h)
+
+pub occurrence : (p s : List ℕ) (i : ℕ) → In i (occurrences p s) ↔ BeginsAt p s i
+occurrence p s i = (occurrence-is p s i, is-occurrence p s i)
+
+-- rising, so each once
+pub occurrences-rising : (p s : List ℕ) → Rising (occurrences p s)
+unfolding occurrences
+occurrences-rising p s = below-rising (λ k. begins p (drop k s)) (suc (length s))
+
+-- ---- nothing begins unlisted
+
+-- before the first
+before-first : (l : List ℕ) (k i : ℕ) → Rising (k ∷ l) → i < k → In i (k ∷ l) → ⊥
+before-first l k i r h m = ⊎-elim (λ e. omega arith) (λ n. omega (arith, r .0 i n)) (in-cons m)
+
+pub none-before : (p s : List ℕ) (k : ℕ) (l : List ℕ) → occurrences p s ≡ k ∷ l → (i : ℕ) → i < k → BeginsAt p s i → ⊥
+none-before p s k l e i h b =
+    before-first l k i (subst Rising e (occurrences-rising p s)) h (subst (λ (x : List ℕ). In i x) e (is-occurrence p s i b))
+
+-- between two neighbours
+rising-drop : (l m : List ℕ) → Rising (l ++ m) → Rising m
+rising-drop [] m r = r
+rising-drop (k ∷ l) m r = rising-drop l m (r .1)
+
+-- what stands in a rising list and is greater than an entry stands behind it
+stands-behind : (l : List ℕ) (j : ℕ) (m : List ℕ) (i : ℕ) → Rising (l ++ j ∷ m) → j < i → In i (l ++ j ∷ m) → In i m
+stands-behind [] j m i r h n = ⊎-elim (λ e. absurd (omega arith)) (λ x. x) (in-cons n)
+stands-behind (k ∷ l) j m i r h n = ⊎-elim
+    (λ e. absurd (omega (arith, r .0 j (in-right l (here refl)))))
+    (λ x. stands-behind l j m i (r .1) h x)
+    (in-cons n)
+
+pub none-between : (p s : List ℕ) (l : List ℕ) (j k : ℕ) (m : List ℕ) → occurrences p s ≡ l ++ j ∷ k ∷ m
+    → (i : ℕ) → j < i → i < k → BeginsAt p s i → ⊥
+none-between p s l j k m e i h h′ b =
+    let r = subst Rising e (occurrences-rising p s) in
+    before-first m k i (rising-drop l (j ∷ k ∷ m) r .1) h′
+    (stands-behind l j (k ∷ m) i r h (subst (λ (x : List ℕ). In i x) e (is-occurrence p s i b)))
+
+-- after the last
+pub none-after : (p s : List ℕ) (l : List ℕ) (j : ℕ) → occurrences p s ≡ l ++ j ∷ [] → (i : ℕ) → j < i → BeginsAt p s i → ⊥
+none-after p s l j e i h b =
+    in-nil (stands-behind l j [] i (subst Rising e (occurrences-rising p s)) h (subst (λ (x : List ℕ). In i x) e (is-occurrence p s i b)))
+
+-- the list is empty exactly when the pattern begins nowhere
+pub empty-nowhere : (p s : List ℕ) → (occurrences p s ≡ []) ↔ ((i : ℕ) → BeginsAt p s i → ⊥)
+empty-nowhere p s =
+    ( λ e i b. in-nil (subst (λ (x : List ℕ). In i x) e (is-occurrence p s i b))
+    , λ h. none (occurrences p s) (λ i m. h i (occurrence-is p s i m)))
+  where
+    none : (l : List ℕ) → ((i : ℕ) → In i l → ⊥) → l ≡ []
+    none [] h = refl
+    none (k ∷ l) h = absurd (h k (here refl))
+
+-- ---- the marked text
+
+-- ranks begin where bytes begin
+begins-ranks : (o : Order) (p s : List ℕ) → Bytes p → Bytes s → begins (map (rankOf o) p) (map (rankOf o) s) ≡ begins p s
+unfolding begins
+begins-ranks o [] s hp hs = refl
+begins-ranks o (a ∷ p) [] hp hs = refl
+begins-ranks o (a ∷ p) (b ∷ s) hp hs =
+    ap₂ {C = Bool} (λ x y. x && y)
+    (bool-ext (eqb (rankOf o a) (rankOf o b)) (eqb a b)
+    (λ e. eq-eqb a b (sym (byte-of-rank o a (hp a (here refl))) ∙ ap (byteOf o) (eqb-true (rankOf o a) (rankOf o b) e) ∙ byte-of-rank o b (hs b (here refl))))
+    (λ e. eq-eqb (rankOf o a) (rankOf o b) (ap (rankOf o) (eqb-true a b e))))
+    (begins-ranks o p s (λ x m. hp x (there m)) (λ x m. hs x (there m)))
+
+drop-map : (f : ℕ → ℕ) (i : ℕ) (l : List ℕ) → drop i (map f l) ≡ map f (drop i l)
+drop-map f zero l = refl
+drop-map f (suc i) [] = refl
+drop-map f (suc i) (a ∷ l) = drop-map f i l
+
+in-drop : (i : ℕ) (l : List ℕ) (b : ℕ) → In b (drop i l) → In b l
+in-drop zero l b m = m
+in-drop (suc i) [] b m = m
+in-drop (suc i) (a ∷ l) b m = there (in-drop i l b m)
+
+-- no sample is the mark
+not-mark : (o : Order) (p s : List ℕ) → 0 < length p → Bytes p → begins (map (rankOf o) p) (0 ∷ s) ≡ false
+unfolding begins
+not-mark o [] s h hp = absurd (omega arith)
+not-mark o (a ∷ p) s h hp = rw (ne-eqb (rankOf o a) 0 (λ e. omega (arith, rank-range o a (hp a (here refl)) .0)))
+
+pub occurrences-marked : (o : Order) (p s : List ℕ) → 0 < length p → Bytes p → Bytes s
+    → occurrences (map (rankOf o) p) (marked o s) ≡ map suc (occurrences p s)
+unfolding occurrences marked
+occurrences-marked o p s h hp hs =
+    below-shift test (suc (length (map (rankOf o) s)))
+    ∙ rw (not-mark o p (map (rankOf o) s) h hp, length-map s (rankOf o))
+    (ap (map suc) (below-ext (λ k. test (suc k)) (λ k. begins p (drop k s)) (suc (length s))
+    (λ k l. ap (begins (map (rankOf o) p)) (drop-map (rankOf o) k s) ∙ begins-ranks o p (drop k s) hp (λ b m. hs b (in-drop k s b m)))))
+  where
+    test : ℕ → Bool
+    test k = begins (map (rankOf o) p) (drop k (0 ∷ map (rankOf o) s))
