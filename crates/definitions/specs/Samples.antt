@@ -8,7 +8,7 @@ use lib.Dec.{eqb}
 use Rattle.definitions.specs.declared.Order.the-variants.{Unsigned}
 use Rattle.definitions.specs.Words.{every, below, least, same, begins, lexlt, lyndon, cutOf}
 use Rattle.definitions.specs.Grammar.{leftOf, rightOf, word, split, lyndonTree, indexOf, meet, visit, order, ruleOf, rulesOf}
-use Rattle.definitions.specs.Table.{rankOf, byteOf, numberOfRank, rankOfNumber, marked, wordOf, kindOf, numberOf, ruleWords, words, tableOf, badFirst, badSecond, badWord, stringOf, strings, spelled, textOf, chairOf, isDrive, isChair, isTable}
+use Rattle.definitions.specs.Table.{rankOf, byteOf, numberOfRank, rankOfNumber, marked, wordOf, kindOf, numberOf, ruleWords, words, tableOf, badFirst, badSecond, badWord, stringOf, strings, ruleString, spelled, textOf, chairOf, isDrive, isChair, isTable}
 use Rattle.definitions.specs.Occurrences.{occurrences, notAfter, isLive, liveCuts, patternCuts}
 
 abbrev pub a : ℕ
@@ -76,5 +76,5 @@ samples =
 
 -- every sample holds
 pub samples-hold : all samples ≡ true
-unfolding holds all samples every below least same begins lexlt lyndon cutOf leftOf rightOf word split lyndonTree indexOf meet visit order ruleOf rulesOf rankOf byteOf numberOfRank rankOfNumber marked wordOf kindOf numberOf ruleWords words tableOf badFirst badSecond badWord stringOf strings spelled textOf chairOf isDrive isChair isTable occurrences notAfter isLive liveCuts patternCuts
+unfolding holds all samples every below least same begins lexlt lyndon cutOf leftOf rightOf word split lyndonTree indexOf meet visit order ruleOf rulesOf rankOf byteOf numberOfRank rankOfNumber marked wordOf kindOf numberOf ruleWords words tableOf badFirst badSecond badWord stringOf strings ruleString spelled textOf chairOf isDrive isChair isTable occurrences notAfter isLive liveCuts patternCuts
 samples-hold = refl

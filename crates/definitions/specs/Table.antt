@@ -92,9 +92,23 @@ strings o t zero = []
 strings o t (suc n) =
     let before = strings o t n in before ++ (stringOf o before (getD t (2 * n) 0) (getD t (2 * n + 1) 0) ∷ [])
 
+-- the string of rule r
+unfoldable pub ruleString : Order → List ℕ → ℕ → List ℕ
+ruleString o t r = getD (strings o t (length t / 2)) r []
+
+-- rule r is a pair rule; its halves are the strings of u and v, and its join lies between them
+unfoldable pub isPair : List ℕ → ℕ → Bool
+isPair t r = ltb r (length t / 2) && eqb (kindOf (getD t (2 * r) 0)) 1
+
+unfoldable pub leftHalf : Order → List ℕ → ℕ → List ℕ
+leftHalf o t r = ruleString o t (numberOf (getD t (2 * r) 0))
+
+unfoldable pub rightHalf : Order → List ℕ → ℕ → List ℕ
+rightHalf o t r = ruleString o t (numberOf (getD t (2 * r + 1) 0))
+
 -- the string of the last rule, the root
 unfoldable pub spelled : Order → List ℕ → List ℕ
-spelled o t = getD (strings o t (length t / 2)) (length t / 2 - 1) []
+spelled o t = ruleString o t (length t / 2 - 1)
 
 -- the drive that a table spells behind the mark, and its chair number
 unfoldable pub textOf : Order → List ℕ → List ℕ

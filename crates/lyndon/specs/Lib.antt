@@ -11,3 +11,6 @@ pub mod Ranks
 pub mod Tables
 pub mod Reading
 pub mod Occurrences
+pub mod Cuts
+pub mod Joins
+pub mod Pairs

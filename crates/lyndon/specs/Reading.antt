@@ -13,7 +13,7 @@ use borrow.Author.Tests.{leb-true, le-leb}
 use Rattle.definitions.specs.declared.Order.{Order}
 use Rattle.definitions.specs.Words.{least, same}
 use Rattle.definitions.specs.Grammar.{order, rulesOf}
-use Rattle.definitions.specs.Table.{rankOf, byteOf, marked, wordOf, numberOf, words, tableOf, badWord, strings, spelled, textOf, chairOf, isDrive, isChair, isTable}
+use Rattle.definitions.specs.Table.{rankOf, byteOf, marked, wordOf, numberOf, words, tableOf, badWord, strings, ruleString, spelled, textOf, chairOf, isDrive, isChair, isTable}
 use Rattle.lists.specs.Bools.{and-left, and-right, and-intro}
 use Rattle.lists.specs.Strings.{same-eq, same-self}
 use Rattle.lyndon.specs.Words.{Lyndon}
@@ -55,7 +55,7 @@ module _ (o : Order) (text : List ℕ) (chair : ℕ) (ok : Stored text chair) wh
 
   -- ---- the table's words
 
-  table-words : tableOf o text chair ≡ words o chair (rulesFor (order (marked o text)))
+  pub table-words : tableOf o text chair ≡ words o chair (rulesFor (order (marked o text)))
   unfolding tableOf rulesOf rulesFor
   table-words = refl
 
@@ -82,7 +82,7 @@ module _ (o : Order) (text : List ℕ) (chair : ℕ) (ok : Stored text chair) wh
   table-strings = rw (table-rules, table-words) (strings-back o (order (marked o text)) chair storable)
 
   pub table-spelled : spelled o (tableOf o text chair) ≡ marked o text
-  unfolding spelled
+  unfolding spelled ruleString
   table-spelled = rw (table-strings, table-rules) (order-root (marked o text) word-lyndon)
 
   pub table-text : textOf o (tableOf o text chair) ≡ text

@@ -1,0 +1,141 @@
+-- Occurrences at a join: those in u ++ v are those in u, those that straddle the join, and those in v moved on (`occurrences-join`);
+-- under a standard factorization the straddling ones are exactly those cut at a live cut (`straddling-cut`).
+use mathlib.Core.Path.{_≡_, refl, sym, _∙_, ap, ap₂, subst}
+use mathlib.Core.Bool.{Bool, true, false, cond, _&&_, _||_, false≢true}
+use mathlib.Core.Logic.{_⊎_, inl, inr, ⊎-elim}
+use mathlib.Core.List.{List, [], _∷_, _++_, map, append-assoc, append-nil, List·Memᴰ as In, List·Memᴰ·head as here, List·Memᴰ·tail as there, List·Memᴰ·not-nil as in-nil, List·Memᴰ·cases-cons as in-cons}
+use Prim.Native.Nat.{ℕ, zero, suc, _+_, _-_, _≤_, _<_}
+use native.Mathlib.Omega.{arith}
+use lib.ListN.{length, drop, length-append, length-drop}
+use lib.Seq.{drop-append-add, drop-append-le}
+use lib.Dec.{ltb, eqb}
+use borrow.Author.Tests.{ltb-true, lt-ltb, le-ltb, eqb-true, eq-eqb}
+use Rattle.definitions.specs.Words.{below, begins}
+use Rattle.definitions.specs.Occurrences.{occurrences, liveCuts, straddles, straddling, cutIn, cutAt}
+use Rattle.lists.specs.Bools.{either, bool-ext, not-so, and-left, and-right, and-intro, and-same, or-left, or-right, or-cases}
+use Rattle.lists.specs.Numbers.{split-le, below-ext, below-stop, below-append, below-split}
+use Rattle.lists.specs.Strings.{begins-rest, rest-begins}
+use Rattle.lyndon.specs.Factorization.{Std}
+use Rattle.lyndon.specs.Cuts.{Live, live-cut, Straddle, straddle-view, straddle-live}
+
+-- ---- the cuts that a search tries
+
+-- the cuts that are tried at a join: the live cuts
+unfoldable pub triedCuts : List ℕ → List ℕ
+triedCuts p = liveCuts p
+
+-- each is a live cut
+pub tried-live : (p : List ℕ) (c : ℕ) → In c (triedCuts p) → Live p c
+unfolding triedCuts
+tried-live p c m = live-cut p c .0 m
+
+-- every straddling occurrence is cut at one
+pub straddle-tried : (p u v : List ℕ) (i : ℕ) → Std u v → (s : Straddle p u v i) → In (length (s .front)) (triedCuts p)
+unfolding triedCuts
+straddle-tried p u v i d s = live-cut p (length (s .front)) .1 (straddle-live p u v i d s)
+
+cut-in : (cuts u : List ℕ) (i : ℕ) → cutIn cuts u i ≡ true → (c : ℕ) × In c cuts × (i + c ≡ length u)
+unfolding cutIn
+cut-in [] u i e = absurd (false≢true e)
+cut-in (c ∷ cuts) u i e = go (or-cases (eqb (i + c) (length u)) (cutIn cuts u i) e) (λ q. cut-in cuts u i q)
+  where
+    go : (eqb (i + c) (length u) ≡ true) ⊎ (cutIn cuts u i ≡ true) → (cutIn cuts u i ≡ true → (d : ℕ) × In d cuts × (i + d ≡ length u))
+        → (d : ℕ) × In d (c ∷ cuts) × (i + d ≡ length u)
+    go (inl q) ih = (c, here refl, eqb-true (i + c) (length u) q)
+    go (inr q) ih = let (d, m, p) = ih q in (d, there m, p)
+
+in-cut : (cuts u : List ℕ) (i c : ℕ) → In c cuts → i + c ≡ length u → cutIn cuts u i ≡ true
+unfolding cutIn
+in-cut [] u i c m e = absurd (in-nil m)
+in-cut (d ∷ cuts) u i c m e = ⊎-elim
+    (λ q. or-left (eqb (i + d) (length u)) (cutIn cuts u i) (eq-eqb (i + d) (length u) (omega arith)))
+    (λ k. or-right (eqb (i + d) (length u)) (cutIn cuts u i) (in-cut cuts u i c k e))
+    (in-cons m)
+
+-- ---- the straddling occurrences are those cut at a cut that is tried
+
+pub straddling-tried : (p u v : List ℕ) → Std u v → straddling p u v ≡ cutAt p (triedCuts p) u v
+unfolding straddling cutAt straddles
+straddling-tried p u v d =
+    below-ext
+    (λ i. begins p (drop i (u ++ v)) && (ltb i (length u) && ltb (length u) (i + length p)))
+    (λ i. begins p (drop i (u ++ v)) && cutIn (triedCuts p) u i) (suc (length (u ++ v)))
+    (λ i h. and-same (begins p (drop i (u ++ v))) (ltb i (length u) && ltb (length u) (i + length p)) (cutIn (triedCuts p) u i)
+    (λ b. bool-ext (ltb i (length u) && ltb (length u) (i + length p)) (cutIn (triedCuts p) u i) (to i b) (from i)))
+  where
+    to : (i : ℕ) → begins p (drop i (u ++ v)) ≡ true → ltb i (length u) && ltb (length u) (i + length p) ≡ true → cutIn (triedCuts p) u i ≡ true
+    to i b e =
+        let s = straddle-view p u v i b (ltb-true i (length u) (and-left (ltb i (length u)) (ltb (length u) (i + length p)) e)) (ltb-true (length u) (i + length p) (and-right (ltb i (length u)) (ltb (length u) (i + length p)) e)) in
+        in-cut (triedCuts p) u i (length (s .front)) (straddle-tried p u v i d s) (omega (arith, s .place, simp length-append at (ap length (s .left))))
+
+    from : (i : ℕ) → cutIn (triedCuts p) u i ≡ true → ltb i (length u) && ltb (length u) (i + length p) ≡ true
+    from i e =
+        let (c, m, q) = cut-in (triedCuts p) u i e in
+        let (z, k, l) = tried-live p c m in
+        and-intro (ltb i (length u)) (ltb (length u) (i + length p)) (lt-ltb i (length u) (omega arith)) (lt-ltb (length u) (i + length p) (omega arith))
+
+pub straddling-cut : (p u v : List ℕ) → Std u v → straddling p u v ≡ cutAt p (liveCuts p) u v
+unfolding triedCuts
+straddling-cut p u v d = straddling-tried p u v d
+
+-- ---- all occurrences in u ++ v
+
+-- what follows does not matter to a pattern that fits
+begins-front : (p x y : List ℕ) → length p ≤ length x → begins p (x ++ y) ≡ begins p x
+unfolding begins
+begins-front [] x y h = refl
+begins-front (a ∷ p) [] y h = absurd (omega arith)
+begins-front (a ∷ p) (b ∷ x) y h = ap (λ (c : Bool). eqb a b && c) (begins-front p x y (omega arith))
+
+begins-short : (p x : List ℕ) → length x < length p → begins p x ≡ false
+begins-short p x h = not-so (begins p x) (λ e. let (r, q) = begins-rest p x e in omega (arith, simp length-append at (ap length q)))
+
+pub occurrences-join : (p u v : List ℕ) → 0 < length p
+    → occurrences p (u ++ v) ≡ occurrences p u ++ (straddling p u v ++ map (λ (k : ℕ). length u + k) (occurrences p v))
+unfolding occurrences straddling straddles
+occurrences-join p u v hp =
+    ap (below f) size
+    ∙ below-append f n (suc (length v))
+    ∙ ap₂ {C = List ℕ} (λ x y. x ++ y) front (ap (map (λ (k : ℕ). n + k)) (below-ext (λ k. f (n + k)) (λ k. begins p (drop k v)) (suc (length v)) (λ k l. ap (begins p) (drop-append-add u v k))))
+    ∙ append-assoc (below g (suc n)) (below h (suc (length (u ++ v)))) (map (λ (k : ℕ). n + k) (below (λ k. begins p (drop k v)) (suc (length v))))
+  where
+    n : ℕ
+    n = length u
+
+    size : suc (length (u ++ v)) ≡ n + suc (length v)
+    size = omega (arith, length-append u v)
+
+    f : ℕ → Bool
+    f i = begins p (drop i (u ++ v))
+
+    g : ℕ → Bool
+    g i = begins p (drop i u)
+
+    h : ℕ → Bool
+    h i = f i && (ltb i n && ltb n (i + length p))
+
+    in-left : (k : ℕ) → k < n → k < suc n - length p → (f k ≡ g k) × (h k ≡ false)
+    in-left k l m =
+        ( ap (begins p) (drop-append-le k u v (omega arith)) ∙ begins-front p (drop k u) v (simp length-drop (omega arith))
+        , not-so (h k) (λ e. let z = ltb-true n (k + length p) (and-right (ltb k n) (ltb n (k + length p)) (and-right (f k) (ltb k n && ltb n (k + length p)) e)) in omega arith))
+
+    at-join : (k : ℕ) → k < n → suc n - length p ≤ k → (f k ≡ h k) × (g k ≡ false)
+    at-join k l m =
+        ( bool-ext (f k) (h k)
+            (λ e. and-intro (f k) (ltb k n && ltb n (k + length p)) e (and-intro (ltb k n) (ltb n (k + length p)) (lt-ltb k n l) (lt-ltb n (k + length p) (omega arith))))
+            (λ e. and-left (f k) (ltb k n && ltb n (k + length p)) e)
+        , begins-short p (drop k u) (simp length-drop (omega arith)))
+
+    -- those in u end before its end, and those that straddle begin before it
+    g-stops : below g (suc n) ≡ below g n
+    g-stops = ap (below g) one-more ∙ below-stop g n 1 (λ k a b. begins-short p (drop k u) (simp length-drop (omega arith)))
+      where
+        one-more : suc n ≡ n + 1
+        one-more = omega arith
+
+    h-stops : below h (suc (length (u ++ v))) ≡ below h n
+    h-stops = ap (below h) size ∙ below-stop h n (suc (length v))
+        (λ k a b. not-so (h k) (λ e. let z = ltb-true k n (and-left (ltb k n) (ltb n (k + length p)) (and-right (f k) (ltb k n && ltb n (k + length p)) e)) in omega arith))
+
+    front : below f n ≡ below g (suc n) ++ below h (suc (length (u ++ v)))
+    front = below-split f g h (suc n - length p) n in-left at-join ∙ ap₂ {C = List ℕ} (λ x y. x ++ y) (sym g-stops) (sym h-stops)

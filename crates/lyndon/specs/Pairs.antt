@@ -1,0 +1,79 @@
+-- Demand 3 on pair rules: in every accepted table the two halves of a pair rule are its string's standard factorization
+-- (`pair-halves`), the occurrences that straddle its join are exactly those cut there at a live cut (`pair-straddling`), and its
+-- occurrences are those in the left half, those, and those in the right half moved on (`pair-occurrences`).
+use mathlib.Core.Path.{_≡_, refl, sym, _∙_, ap, ap₂, subst}
+use mathlib.Core.Bool.{Bool, true, false, _&&_}
+use mathlib.Core.List.{List, [], _∷_, _++_, map}
+use Prim.Native.Nat.{ℕ, zero, suc, _+_, _*_, _/_, _≤_, _<_}
+use native.Mathlib.Omega.{arith}
+use lib.ListN.{length, getD}
+use lib.Dec.{ltb, eqb}
+use borrow.Author.Tests.{ltb-true, eqb-true}
+use Rattle.definitions.specs.declared.Order.{Order}
+use Rattle.definitions.specs.Grammar.{leftOf, rightOf, order}
+use Rattle.definitions.specs.Table.{numberOfRank, marked, words, wordOf, kindOf, numberOf, tableOf, isTable, textOf, chairOf, isPair, leftHalf, rightHalf, ruleString}
+use Rattle.definitions.specs.Occurrences.{occurrences, liveCuts, straddling, cutAt}
+use Rattle.lists.specs.Bools.{and-left, and-right}
+use Rattle.lyndon.specs.Factorization.{Std, std-parts}
+use Rattle.lyndon.specs.Rules.{rulesFor}
+use Rattle.lyndon.specs.Ranks.{number-range}
+use Rattle.lyndon.specs.Tables.{Storable, Entry, one, two, entry, word-kind, word-number}
+use Rattle.lyndon.specs.Reading.{Stored, storable, order-most, table-words, table-rules, table-strings, accepted-stored, accepted-table}
+use Rattle.lyndon.specs.Joins.{straddling-cut, occurrences-join}
+
+-- the string of rule r is its halves' strings, and these are its standard factorization
+abbrev pub Halves : Order → List ℕ → ℕ → Type 0
+Halves o t r = (ruleString o t r ≡ leftHalf o t r ++ rightHalf o t r) × Std (leftHalf o t r) (rightHalf o t r)
+
+stored-halves : (o : Order) (text : List ℕ) (chair : ℕ) → Stored text chair → (r : ℕ) → isPair (tableOf o text chair) r ≡ true
+    → Halves o (tableOf o text chair) r
+unfolding isPair leftHalf rightHalf ruleString
+stored-halves o text chair ok r e = go (entry o S chair r (storable o text chair ok) small)
+  where
+    S : List (List ℕ)
+    S = order (marked o text)
+
+    t : List ℕ
+    t = tableOf o text chair
+
+    small : r < length S
+    small = omega (arith, table-rules o text chair ok, ltb-true r (length t / 2) (and-left (ltb r (length t / 2)) (eqb (kindOf (getD t (2 * r) 0)) 1) e))
+
+    is-pair : kindOf (getD (words o chair (rulesFor S)) (2 * r) 0) ≡ 1
+    is-pair =
+        ap (λ (x : List ℕ). kindOf (getD x (2 * r) 0)) (sym (table-words o text chair ok))
+        ∙ eqb-true (kindOf (getD t (2 * r) 0)) 1 (and-right (ltb r (length t / 2)) (eqb (kindOf (getD t (2 * r) 0)) 1) e)
+
+    -- rule i has string i
+    string : (i : ℕ) → ruleString o t i ≡ getD S i []
+    string i = ap (λ (x : List (List ℕ)). getD x i []) (table-strings o text chair ok)
+
+    go : Entry o S chair r → Halves o t r
+    go (one a l x f s) =
+        absurd (omega (arith, number-range o a l, sym (word-kind 0 (numberOfRank o a) (omega (arith, number-range o a l))) ∙ ap kindOf (sym f) ∙ is-pair))
+    go (two i j p q k x y f s) =
+        let size = order-most o text chair ok in
+        let left : leftHalf o t r ≡ leftOf (getD S r []) = ap (λ (w : List ℕ). ruleString o t (numberOf (getD w (2 * r) 0))) (table-words o text chair ok) ∙ ap (λ (n : ℕ). ruleString o t (numberOf n)) f ∙ ap (ruleString o t) (word-number 1 i (omega (arith, small))) ∙ string i ∙ x in
+        let right : rightHalf o t r ≡ rightOf (getD S r []) = ap (λ (w : List ℕ). ruleString o t (numberOf (getD w (2 * r + 1) 0))) (table-words o text chair ok) ∙ ap (λ (n : ℕ). ruleString o t (numberOf n)) s ∙ ap (ruleString o t) (word-number 2 j (omega (arith, small))) ∙ string j ∙ y in
+        let (e₁, d) = std-parts (getD S r []) k in
+        (string r ∙ e₁ ∙ sym (ap₂ {C = List ℕ} (λ u v. u ++ v) left right), rw (left, right) d)
+
+pub pair-halves : (o : Order) (t : List ℕ) → isTable o t ≡ true → (r : ℕ) → isPair t r ≡ true → Halves o t r
+pair-halves o t a r e =
+    subst (λ (x : List ℕ). Halves o x r) (accepted-table o t a)
+    (stored-halves o (textOf o t) (chairOf t) (accepted-stored o t a) r (rw (accepted-table o t a) e))
+
+-- trying live cuts alone loses no occurrence
+pub pair-straddling : (o : Order) (t : List ℕ) → isTable o t ≡ true → (r : ℕ) → isPair t r ≡ true → (p : List ℕ)
+    → straddling p (leftHalf o t r) (rightHalf o t r) ≡ cutAt p (liveCuts p) (leftHalf o t r) (rightHalf o t r)
+pair-straddling o t a r e p = straddling-cut p (leftHalf o t r) (rightHalf o t r) (pair-halves o t a r e .1)
+
+pub pair-occurrences : (o : Order) (t : List ℕ) → isTable o t ≡ true → (r : ℕ) → isPair t r ≡ true → (p : List ℕ) → 0 < length p
+    → occurrences p (ruleString o t r)
+    ≡ occurrences p (leftHalf o t r)
+    ++ (cutAt p (liveCuts p) (leftHalf o t r) (rightHalf o t r) ++ map (λ (k : ℕ). length (leftHalf o t r) + k) (occurrences p (rightHalf o t r)))
+pair-occurrences o t a r e p h =
+    let (s, d) = pair-halves o t a r e in
+    ap (occurrences p) s
+    ∙ occurrences-join p (leftHalf o t r) (rightHalf o t r) h
+    ∙ ap (λ (x : List ℕ). occurrences p (leftHalf o t r) ++ (x ++ map (λ (k : ℕ). length (leftHalf o t r) + k) (occurrences p (rightHalf o t r)))) (straddling-cut p (leftHalf o t r) (rightHalf o t r) d)
