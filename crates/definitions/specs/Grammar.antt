@@ -1,6 +1,6 @@
 -- The Lyndon tree of a word and the rules of its grammar (document 01, "Words on which the grammar stands").
 use Prim.Native.Nat.{ℕ, zero, suc}
-use mathlib.Core.Bool.{Bool, true, false, cond}
+use mathlib.Core.Bool.{true, false, cond}
 use mathlib.Core.List.{List, [], _∷_, _++_, map}
 use lib.ListN.{length, take, drop, getD}
 use lib.Dec.{ltb}

@@ -1,7 +1,7 @@
 -- Occurrences of a pattern, live cuts, and occurrences at the join of a pair rule (document 01, "Live cuts", "Finds and joins").
 -- An occurrence is document 01's find, a pattern its motif. `live cut` is document 01's own term.
-use Prim.Native.Nat.{ℕ, zero, suc, _+_}
-use mathlib.Core.Bool.{Bool, true, false, _&&_, _||_}
+use Prim.Native.Nat.{ℕ, suc, _+_}
+use mathlib.Core.Bool.{Bool, false, _&&_, _||_}
 use mathlib.Core.List.{List, [], _∷_, _++_, map}
 use lib.ListN.{length, drop}
 use lib.Dec.{ltb, eqb}

@@ -1,15 +1,17 @@
--- The samples of document 01 that are marked P, its table of `abab` for chair 40 and its live cuts, by computation, under one claim.
+-- The samples of document 01 that are marked P, its live cuts, its table of `abab` for chair 40, tables that it says are foreign, and
+-- some of its edges as outcomes of services: by computation, under one claim.
 use Prim.Native.Nat.{ℕ}
 use mathlib.Core.Path.{_≡_, refl}
-use mathlib.Core.Bool.{Bool, true, false, cond, _&&_}
+use mathlib.Core.Bool.{Bool, true, _&&_}
 use mathlib.Core.List.{List, [], _∷_}
-use lib.ListN.{length}
+use lib.ListN.{length, drop}
 use lib.Dec.{eqb}
 use Rattle.definitions.specs.declared.Order.the-variants.{Unsigned}
 use Rattle.definitions.specs.Words.{every, below, least, same, begins, lexlt, lyndon, cutOf}
 use Rattle.definitions.specs.Grammar.{leftOf, rightOf, word, split, lyndonTree, indexOf, meet, visit, order, ruleOf, rulesOf}
 use Rattle.definitions.specs.Table.{rankOf, byteOf, numberOfRank, rankOfNumber, marked, wordOf, kindOf, numberOf, ruleWords, words, tableOf, badFirst, badSecond, badWord, stringOf, strings, ruleString, spelled, textOf, chairOf, isDrive, isChair, isTable}
 use Rattle.definitions.specs.Occurrences.{occurrences, notAfter, isLive, liveCuts, patternCuts}
+use Rattle.definitions.specs.Services.{Service, firstMet, outcome, tableChecks, patternChecks, checkService, extractService, countService, locateService, cutsService}
 
 abbrev pub a : ℕ
 a = 97
@@ -17,9 +19,28 @@ a = 97
 abbrev pub b : ℕ
 b = 98
 
--- a line of the desk: a claim on a drive, its rules or a pattern
+abbrev pub abab : List ℕ
+abab = a ∷ b ∷ a ∷ b ∷ []
+
+abbrev pub ofAbab : List ℕ
+ofAbab =
+    0x00000000 ∷ 0xC0000028 ∷ 0x00000062 ∷ 0xC0000000 ∷ 0x00000063 ∷ 0xC0000000
+    ∷ 0x40000001 ∷ 0x80000002 ∷ 0x40000000 ∷ 0x80000003 ∷ 0x40000004 ∷ 0x80000003 ∷ []
+
+-- the same strings, with the rules of `a` and `b` in the other order
+abbrev pub otherOrder : List ℕ
+otherOrder =
+    0x00000000 ∷ 0xC0000028 ∷ 0x00000063 ∷ 0xC0000000 ∷ 0x00000062 ∷ 0xC0000000
+    ∷ 0x40000002 ∷ 0x80000001 ∷ 0x40000000 ∷ 0x80000003 ∷ 0x40000004 ∷ 0x80000003 ∷ []
+
+-- the same drive, with two rules that spell `ab`
+abbrev pub twoRules : List ℕ
+twoRules =
+    0x00000000 ∷ 0xC0000028 ∷ 0x00000062 ∷ 0xC0000000 ∷ 0x00000063 ∷ 0xC0000000 ∷ 0x40000001 ∷ 0x80000002
+    ∷ 0x40000000 ∷ 0x80000003 ∷ 0x40000001 ∷ 0x80000002 ∷ 0x40000004 ∷ 0x80000005 ∷ []
+
 pub data Sample : Type 0 where
-  -- the drive has so many rules, and its table is accepted and read back
+  -- the drive has so many rules, its table is accepted and gives the drive and the chair number back
   rules : List ℕ → ℕ → Sample
   -- in the drive the pattern has just these occurrences
   finds : List ℕ → List ℕ → List ℕ → Sample
@@ -27,6 +48,8 @@ pub data Sample : Type 0 where
   cuts : List ℕ → List ℕ → Sample
   -- the table of the drive and chair number, word by word
   table : List ℕ → ℕ → List ℕ → Sample
+  -- the service ends with this number, place and count
+  ends : Service → ℕ → ℕ → ℕ → Sample
 
 unfoldable pub holds : Sample → Bool
 holds (rules text n) =
@@ -37,6 +60,8 @@ holds (rules text n) =
 holds (finds text p places) = same (occurrences p text) places
 holds (cuts p places) = same (patternCuts Unsigned p) places
 holds (table text chair t) = same (tableOf Unsigned text chair) t
+holds (ends s number place count) =
+    let r = outcome s in eqb (r .number) number && (eqb (r .place) place && eqb (r .count) count)
 
 unfoldable pub all : List Sample → Bool
 all [] = true
@@ -44,37 +69,43 @@ all (s ∷ samples) = holds s && all samples
 
 unfoldable pub samples : List Sample
 samples =
-    rules [] 1 ∷
-    finds [] (a ∷ []) [] ∷
-    rules (a ∷ []) 3 ∷
-    finds (a ∷ []) (a ∷ []) (0 ∷ []) ∷
-    finds (a ∷ []) (a ∷ a ∷ []) [] ∷
-    rules (a ∷ a ∷ a ∷ a ∷ []) 6 ∷
-    finds (a ∷ a ∷ a ∷ a ∷ []) (a ∷ a ∷ []) (0 ∷ 1 ∷ 2 ∷ []) ∷
-    rules (a ∷ b ∷ a ∷ b ∷ []) 6 ∷
-    finds (a ∷ b ∷ a ∷ b ∷ []) (a ∷ b ∷ []) (0 ∷ 2 ∷ []) ∷
-    finds (a ∷ b ∷ a ∷ b ∷ []) (b ∷ a ∷ []) (1 ∷ []) ∷
-    rules (b ∷ a ∷ b ∷ a ∷ []) 7 ∷
-    finds (b ∷ a ∷ b ∷ a ∷ []) (b ∷ a ∷ []) (0 ∷ 2 ∷ []) ∷
-    finds (b ∷ a ∷ b ∷ a ∷ []) (a ∷ []) (1 ∷ 3 ∷ []) ∷
-    rules (a ∷ b ∷ b ∷ b ∷ []) 7 ∷
-    finds (a ∷ b ∷ b ∷ b ∷ []) (b ∷ b ∷ b ∷ []) (1 ∷ []) ∷
-    rules (a ∷ a ∷ b ∷ b ∷ []) 7 ∷
-    finds (a ∷ a ∷ b ∷ b ∷ []) (a ∷ a ∷ b ∷ []) (0 ∷ []) ∷
-    cuts (a ∷ b ∷ a ∷ b ∷ []) (2 ∷ []) ∷
-    cuts (a ∷ a ∷ b ∷ a ∷ []) (1 ∷ 3 ∷ []) ∷
-    cuts (a ∷ a ∷ a ∷ []) (1 ∷ 2 ∷ []) ∷
-    cuts (a ∷ []) [] ∷
-    table (a ∷ b ∷ a ∷ b ∷ []) 40
-        (0x00000000 ∷ 0xC0000028 ∷
-        0x00000062 ∷ 0xC0000000 ∷
-        0x00000063 ∷ 0xC0000000 ∷
-        0x40000001 ∷ 0x80000002 ∷
-        0x40000000 ∷ 0x80000003 ∷
-        0x40000004 ∷ 0x80000003 ∷ []) ∷
-    []
+    rules [] 1
+    ∷ finds [] (a ∷ []) []
+    ∷ rules (a ∷ []) 3
+    ∷ finds (a ∷ []) (a ∷ []) (0 ∷ [])
+    ∷ finds (a ∷ []) (a ∷ a ∷ []) []
+    ∷ rules (a ∷ a ∷ a ∷ a ∷ []) 6
+    ∷ finds (a ∷ a ∷ a ∷ a ∷ []) (a ∷ a ∷ []) (0 ∷ 1 ∷ 2 ∷ [])
+    ∷ rules abab 6
+    ∷ finds abab (a ∷ b ∷ []) (0 ∷ 2 ∷ [])
+    ∷ finds abab (b ∷ a ∷ []) (1 ∷ [])
+    ∷ rules (b ∷ a ∷ b ∷ a ∷ []) 7
+    ∷ finds (b ∷ a ∷ b ∷ a ∷ []) (b ∷ a ∷ []) (0 ∷ 2 ∷ [])
+    ∷ finds (b ∷ a ∷ b ∷ a ∷ []) (a ∷ []) (1 ∷ 3 ∷ [])
+    ∷ rules (a ∷ b ∷ b ∷ b ∷ []) 7
+    ∷ finds (a ∷ b ∷ b ∷ b ∷ []) (b ∷ b ∷ b ∷ []) (1 ∷ [])
+    ∷ rules (a ∷ a ∷ b ∷ b ∷ []) 7
+    ∷ finds (a ∷ a ∷ b ∷ b ∷ []) (a ∷ a ∷ b ∷ []) (0 ∷ [])
+    ∷ cuts abab (2 ∷ [])
+    ∷ cuts (a ∷ a ∷ b ∷ a ∷ []) (1 ∷ 3 ∷ [])
+    ∷ cuts (a ∷ a ∷ a ∷ []) (1 ∷ 2 ∷ [])
+    ∷ cuts (a ∷ []) []
+    ∷ table abab 40 ofAbab
+    ∷ ends (checkService Unsigned ofAbab 16384) 0 0 6
+    ∷ ends (checkService Unsigned ofAbab 16383) 4 0 0
+    ∷ ends (checkService Unsigned (drop 1 ofAbab) 16384) 5 0 0
+    ∷ ends (checkService Unsigned (drop 2 ofAbab) 16384) 6 5 0
+    ∷ ends (checkService Unsigned otherOrder 16384) 7 0 0
+    ∷ ends (checkService Unsigned twoRules 16384) 7 0 0
+    ∷ ends (extractService Unsigned ofAbab 4 0 16384 0) 0 0 0
+    ∷ ends (extractService Unsigned ofAbab 4 1 16384 0) 8 0 0
+    ∷ ends (countService Unsigned ofAbab (b ∷ a ∷ []) 16384) 0 0 1
+    ∷ ends (locateService Unsigned (tableOf Unsigned (a ∷ a ∷ a ∷ a ∷ []) 0) (a ∷ a ∷ []) 16384 2) 9 3 0
+    ∷ ends (locateService Unsigned [] [] 0 0) 2 0 0
+    ∷ ends (cutsService Unsigned (a ∷ a ∷ b ∷ a ∷ []) 1) 9 2 0
+    ∷ []
 
 -- every sample holds
 pub samples-hold : all samples ≡ true
-unfolding holds all samples every below least same begins lexlt lyndon cutOf leftOf rightOf word split lyndonTree indexOf meet visit order ruleOf rulesOf rankOf byteOf numberOfRank rankOfNumber marked wordOf kindOf numberOf ruleWords words tableOf badFirst badSecond badWord stringOf strings ruleString spelled textOf chairOf isDrive isChair isTable occurrences notAfter isLive liveCuts patternCuts
+unfolding holds all samples every below least same begins lexlt lyndon cutOf leftOf rightOf word split lyndonTree indexOf meet visit order ruleOf rulesOf rankOf byteOf numberOfRank rankOfNumber marked wordOf kindOf numberOf ruleWords words tableOf badFirst badSecond badWord stringOf strings ruleString spelled textOf chairOf isDrive isChair isTable occurrences notAfter isLive liveCuts patternCuts firstMet outcome tableChecks patternChecks checkService extractService countService locateService cutsService
 samples-hold = refl

@@ -1,6 +1,6 @@
 -- What each service answers and leaves in the slices lent to it (document 01, "When a request is turned down").
 -- A service's checks are an ordered list; the first that is met decides number, place and what becomes of the work slice.
-use Prim.Native.Nat.{ℕ, zero, suc, _+_, _/_, _%_}
+use Prim.Native.Nat.{ℕ, _+_, _/_, _%_}
 use mathlib.Core.Bool.{Bool, true, false, cond, not, _||_}
 use mathlib.Core.List.{List, [], _∷_, _++_}
 use lib.ListN.{length, take, drop, replicate}
@@ -141,10 +141,11 @@ extractService o t start count n m =
 -- count the occurrences of a pattern
 unfoldable pub countService : Order → List ℕ → List ℕ → ℕ → Service
 countService o t p n =
-    record
-    { checks = patternChecks p ++ tableChecks o t n
-    ; success = done (length (occurrences p (textOf o t))) 0
-    ; written = [] }
+    record {
+      checks = patternChecks p ++ tableChecks o t n;
+      success = done (length (occurrences p (textOf o t))) 0;
+      written = [];
+    }
 
 -- list the occurrences of a pattern
 unfoldable pub locateService : Order → List ℕ → List ℕ → ℕ → ℕ → Service

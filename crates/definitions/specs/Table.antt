@@ -2,7 +2,7 @@
 -- A byte, its rank and its symbol number are three things: the rank is the symbol by which strings compare; the number
 -- stands in the table and is the byte plus one whatever the order. The mark has rank 0 and number 0.
 use Prim.Native.Nat.{ℕ, zero, suc, _+_, _-_, _*_, _/_, _%_, _^_}
-use mathlib.Core.Bool.{Bool, true, false, cond, not, _&&_, _||_}
+use mathlib.Core.Bool.{Bool, cond, not, _&&_, _||_}
 use mathlib.Core.List.{List, [], _∷_, _++_, map}
 use lib.ListN.{length, drop, getD}
 use lib.Dec.{ltb, leb, eqb}

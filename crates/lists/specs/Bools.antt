@@ -1,8 +1,7 @@
 -- Tests that are joined by && and ||, taken apart and put together as equations with true and false.
-use mathlib.Core.Path.{_≡_, refl, sym, _∙_, ap, subst}
-use mathlib.Core.Bool.{Bool, true, false, cond, not, _&&_, _||_, true≢false, false≢true}
+use mathlib.Core.Path.{_≡_, refl, sym, _∙_}
+use mathlib.Core.Bool.{Bool, true, false, cond, _&&_, _||_, true≢false, false≢true}
 use mathlib.Core.Logic.{_⊎_, inl, inr}
-use Prim.Native.Nat.{ℕ}
 
 -- a test has one of its two values
 pub either : (b : Bool) → (b ≡ true) ⊎ (b ≡ false)

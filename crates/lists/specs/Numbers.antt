@@ -1,14 +1,14 @@
 -- Numbers below a bound that pass a test: `every`, `below` and `least` of the definitions.
 use mathlib.Core.Path.{_≡_, refl, sym, _∙_, ap, subst}
-use mathlib.Core.Bool.{Bool, true, false, cond, not, _&&_, _||_}
+use mathlib.Core.Bool.{Bool, true, false, cond, not, _&&_}
 use mathlib.Core.Logic.{_⊎_, inl, inr, ⊎-elim}
 use mathlib.Core.List.{List, [], _∷_, _++_, map, map-append, append-assoc, append-nil, List·Memᴰ as In, List·Memᴰ·head as here, List·Memᴰ·tail as there, List·Memᴰ·not-nil as in-nil, List·Memᴰ·append-cases as in-append, Memᴰ·append-left as in-left, Memᴰ·append-right as in-right, List·Memᴰ·eq-of-singleton as in-one}
-use Prim.Native.Nat.{ℕ, zero, suc, _+_, _-_, _≤_, _<_}
-use native.Mathlib.Nat.{zero-add, add-suc, add-zero}
+use Prim.Native.Nat.{ℕ, zero, suc, _+_, _≤_, _<_}
+use native.Mathlib.Nat.{add-suc, add-zero}
 use native.Mathlib.Omega.{arith}
 use lib.ListN.{length, length-append}
-use lib.Dec.{ltb, leb, eqb}
-use borrow.Author.Tests.{ltb-true, ltb-false, eqb-true, eqb-false, lt-ltb, le-ltb, eq-eqb, ne-eqb}
+use lib.Dec.{ltb, eqb}
+use borrow.Author.Tests.{ltb-true, ltb-false, eqb-true, eq-eqb}
 use Rattle.definitions.specs.Words.{every, below, least}
 use Rattle.lists.specs.Bools.{either, contra, and-left, and-right, and-intro, cond-true, cond-false}
 
@@ -63,9 +63,10 @@ Rising (k ∷ l) = ((j : ℕ) → In j l → k < j) × Rising l
 
 rising-one-more : (l : List ℕ) (n : ℕ) → Rising l → ((j : ℕ) → In j l → j < n) → Rising (l ++ (n ∷ []))
 rising-one-more [] n r h = (λ j i. absurd (in-nil i), tt)
-rising-one-more (k ∷ l) n r h =
-    ( λ j i. ⊎-elim (λ a. r .0 j a) (λ a. subst (λ (m : ℕ). k < m) (sym (in-one a)) (h k (here refl))) (in-append l i)
-    , rising-one-more l n (r .1) (λ j i. h j (there i)))
+rising-one-more (k ∷ l) n r h = (
+  λ j i. ⊎-elim (λ a. r .0 j a) (λ a. subst (λ (m : ℕ). k < m) (sym (in-one a)) (h k (here refl))) (in-append l i),
+  rising-one-more l n (r .1) (λ j i. h j (there i)),
+)
 
 pub below-rising : (f : ℕ → Bool) (n : ℕ) → Rising (below f n)
 unfolding below

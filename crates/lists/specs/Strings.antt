@@ -1,14 +1,12 @@
 -- Strings as values: `same` decides equality, and `begins` that one string is a prefix of another.
-use mathlib.Core.Path.{_≡_, refl, sym, _∙_, ap, ap₂, subst}
-use mathlib.Core.Bool.{Bool, true, false, _&&_, false≢true}
-use mathlib.Core.List.{List, [], _∷_, _++_, append-assoc, append-nil, tail-eq-of-cons-eq, head-eq-of-cons-eq, nil≢cons}
-use Prim.Native.Nat.{ℕ, zero, suc, _+_, _-_, _≤_, _<_}
-use native.Mathlib.Omega.{arith}
-use lib.ListN.{length, take, drop, length-append}
+use mathlib.Core.Path.{_≡_, refl, sym, ap₂}
+use mathlib.Core.Bool.{true, false≢true}
+use mathlib.Core.List.{List, [], _∷_, _++_}
+use Prim.Native.Nat.{ℕ}
 use lib.Dec.{eqb}
 use borrow.Author.Tests.{eqb-true, eq-eqb}
 use Rattle.definitions.specs.Words.{same, begins}
-use Rattle.lists.specs.Bools.{and-left, and-right, and-intro, bool-ext}
+use Rattle.lists.specs.Bools.{and-left, and-right, and-intro}
 
 pub same-eq : (x y : List ℕ) → same x y ≡ true → x ≡ y
 unfolding same

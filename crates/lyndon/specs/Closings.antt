@@ -1,10 +1,9 @@
 -- One number a symbol says the tree: how many joins close right behind it. The right-to-left pass adds one at the last symbol of
 -- the right part at each join (`merge-closings`); the left-to-right pass pushes a symbol's rule and then joins the two top rules
 -- that many times, and so gives the rules of the definition (`run-rules`).
-use mathlib.Core.Path.{_≡_, refl, sym, _∙_, ap, ap₂, subst}
-use mathlib.Core.Bool.{Bool, true, false}
+use mathlib.Core.Path.{_≡_, refl, sym, _∙_, ap, ap₂}
 use mathlib.Core.List.{List, [], _∷_, _++_, append-assoc, append-nil}
-use Prim.Native.Nat.{ℕ, zero, suc, _+_, _≤_, _<_}
+use Prim.Native.Nat.{ℕ, zero, suc, _+_, _<_}
 use native.Mathlib.Omega.{arith}
 use lib.ListN.{length, length-append}
 use Rattle.definitions.specs.Grammar.{Tree, leaf, node, word, lyndonTree, Rule, symbol, pair, rulesOf}
@@ -131,6 +130,6 @@ unfolding closingsOf run joins pushed
 run-rules w h =
     let t = lyndonTree w in
     let e : run start w (closingsOf (forest w)) ≡ pushed start t
-            = ap₂ {C = State} (λ x f. run start x (closingsOf f)) (sym (tree-of w h .1) ∙ sym (append-nil (word t))) (forest-one w h)
-            ∙ run-tree start 0 t [] [] in
+    = ap₂ {C = State} (λ x f. run start x (closingsOf f)) (sym (tree-of w h .1) ∙ sym (append-nil (word t))) (forest-one w h)
+    ∙ run-tree start 0 t [] [] in
     ap (λ (s : State). s .rules) e ∙ number-rules w h

@@ -1,22 +1,22 @@
 -- Live cuts are exactly those of the definition's wording (`live-cut`), rising, each once (`cuts-rising`), none for one symbol
 -- (`cuts-one`). Under a standard factorization (u, v) an occurrence in u ++ v that straddles the join is cut there at a live cut
 -- (`straddle-live`), and at most one does (`straddle-once`).
-use mathlib.Core.Path.{_≡_, refl, sym, _∙_, ap, ap₂, subst}
-use mathlib.Core.Bool.{Bool, true, false, _&&_, _||_}
+use mathlib.Core.Path.{_≡_, sym, _∙_, ap, ap₂, subst}
+use mathlib.Core.Bool.{Bool, true, _||_}
 use mathlib.Core.Logic.{_⊎_, inl, inr, ⊎-elim, _↔_}
-use mathlib.Core.List.{List, [], _∷_, _++_, append-assoc, append-nil, List·Memᴰ as In}
-use Prim.Native.Nat.{ℕ, zero, suc, _+_, _-_, _≤_, _<_}
+use mathlib.Core.List.{List, [], _++_, append-assoc, append-nil, List·Memᴰ as In}
+use Prim.Native.Nat.{ℕ, _+_, _≤_, _<_}
 use native.Mathlib.Omega.{arith}
 use lib.ListN.{length, take, drop, length-append, length-drop, length-take, take-append-drop}
 use lib.Seq.{drop-append-seam, length-take-le}
 use lib.Dec.{ltb, eqb}
 use borrow.Author.Tests.{ltb-true, lt-ltb, eqb-true, eq-eqb}
-use Rattle.definitions.specs.Words.{every, below, begins, lexlt}
+use Rattle.definitions.specs.Words.{every, begins, lexlt}
 use Rattle.definitions.specs.Occurrences.{notAfter, isLive, liveCuts}
-use Rattle.lists.specs.Bools.{either, and-left, and-right, and-intro, or-left, or-right, or-cases}
+use Rattle.lists.specs.Bools.{and-left, and-right, and-intro, or-left, or-right, or-cases}
 use Rattle.lists.specs.Numbers.{split-le, split-lt, every-at, every-all, Rising, below-in, below-lt, below-rising}
 use Rattle.lists.specs.Lists.{Overlap, within, across, overlap}
-use Rattle.lists.specs.Strings.{begins-rest, begins-append, rest-begins}
+use Rattle.lists.specs.Strings.{begins-rest, rest-begins}
 use Rattle.lyndon.specs.Order.{Lt, Dif, Compare, equal, prefix, extends, smaller, greater, compared, lexlt-lt, lt-lexlt, dif-append, dif-lt, lt-cases, lt-irrefl, lt-asym, lt-append}
 use Rattle.lyndon.specs.Factorization.{Std}
 
@@ -58,13 +58,14 @@ live-is : (p : List ℕ) (c : ℕ) → In c (liveCuts p) → Live p c
 unfolding liveCuts isLive
 live-is p c m =
     let (h, e) = below-lt (isLive p) (length p) c m in
-    let test : ℕ → Bool = λ d. eqb d 0 || notAfter (drop c p) (drop d p) in
-    ( ltb-true 0 c (and-left (ltb 0 c) (every test (length p)) e)
-    , h
-    , λ d k l n. ⊎-elim
-        (λ q. absurd (omega (arith, eqb-true d 0 q)))
-        (λ q. not-after-is (drop c p) (drop d p) q)
-        (or-cases (eqb d 0) (notAfter (drop c p) (drop d p)) (every-at test (length p) (and-right (ltb 0 c) (every test (length p)) e) d l)))
+    let test : ℕ → Bool = λ d. eqb d 0 || notAfter (drop c p) (drop d p) in (
+      ltb-true 0 c (and-left (ltb 0 c) (every test (length p)) e),
+      h,
+      λ d k l n. ⊎-elim
+          (λ q. absurd (omega (arith, eqb-true d 0 q)))
+          (λ q. not-after-is (drop c p) (drop d p) q)
+          (or-cases (eqb d 0) (notAfter (drop c p) (drop d p)) (every-at test (length p) (and-right (ltb 0 c) (every test (length p)) e) d l)),
+    )
 
 is-live : (p : List ℕ) (c : ℕ) → Live p c → In c (liveCuts p)
 unfolding liveCuts isLive
@@ -129,17 +130,18 @@ straddle-view p u v i e h k = go (begins-rest p (drop i (u ++ v)) e)
           where
             inner : Overlap p r m v → Straddle p u v i
             inner (within l c d) =
-                record
-                { before = x
-                ; front = m
-                ; rest = l
-                ; behind = r
-                ; place = size
-                ; left = a
-                ; cut = c
-                ; right = d
-                ; front-filled = n
-                ; rest-filled = omega (arith, size, simp length-append at (ap length a), simp length-append at (ap length c)) }
+                record {
+                  before = x;
+                  front = m;
+                  rest = l;
+                  behind = r;
+                  place = size;
+                  left = a;
+                  cut = c;
+                  right = d;
+                  front-filled = n;
+                  rest-filled = omega (arith, size, simp length-append at (ap length a), simp length-append at (ap length c));
+                }
             inner (across l o c d) =
                 absurd (omega (arith, size, simp length-append at (ap length a), simp length-append at (ap length c)))
 
@@ -201,10 +203,10 @@ straddle-once p u v i j std s t h = go (overlap (s .front) (s .rest) (t .front) 
     go (within m a b) = ⊎-elim
         (λ e. omega (arith, filled, simp length-append at (ap length e)))
         (λ l. ⊎-elim
-            (λ e. omega (arith, filled, simp length-append at (ap length e), simp length-append at (ap length right)))
-            (λ k. lt-asym v (m ++ v) l (subst (λ (x : List ℕ). Lt (m ++ v) x) right (lt-append m v (s .rest ++ t .behind) k)))
-            (std .least (u ++ m) (s .rest ++ t .behind) (simp length-append (omega (arith, std .left))) (simp length-append (omega (arith, s .rest-filled)))
-            (ap (λ (x : List ℕ). u ++ x) (sym right) ∙ sym (append-assoc u m (s .rest ++ t .behind)))))
+        (λ e. omega (arith, filled, simp length-append at (ap length e), simp length-append at (ap length right)))
+        (λ k. lt-asym v (m ++ v) l (subst (λ (x : List ℕ). Lt (m ++ v) x) right (lt-append m v (s .rest ++ t .behind) k)))
+        (std .least (u ++ m) (s .rest ++ t .behind) (simp length-append (omega (arith, std .left))) (simp length-append (omega (arith, s .rest-filled)))
+        (ap (λ (x : List ℕ). u ++ x) (sym right) ∙ sym (append-assoc u m (s .rest ++ t .behind)))))
         (std .least (s .before ++ t .front) (m ++ v) (simp length-append (omega (arith, t .front-filled))) (simp length-append (omega (arith, std .right)))
         (ap (λ (x : List ℕ). x ++ v) left ∙ append-assoc (s .before ++ t .front) m v))
       where

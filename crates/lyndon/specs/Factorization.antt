@@ -1,11 +1,11 @@
 -- The standard factorization: the longest proper suffix that is a Lyndon word is the smallest proper suffix.
 -- `Std u v` says that v is the smallest proper suffix of u ++ v; `std-longest` and `longest-std` that it is the longest Lyndon
 -- one, and `std-parts` that the definition's two parts are such. Last, when two factorizations join to a third.
-use mathlib.Core.Path.{_≡_, refl, sym, _∙_, ap, ap₂, subst}
-use mathlib.Core.Bool.{Bool, true, false, _&&_, false≢true}
+use mathlib.Core.Path.{_≡_, refl, sym, _∙_, ap, subst}
+use mathlib.Core.Bool.{Bool, true, false, _&&_}
 use mathlib.Core.Logic.{_⊎_, inl, inr, ⊎-elim}
-use mathlib.Core.List.{List, [], _∷_, _++_, append-nil, append-assoc, append-cancel-left, tail-eq-of-cons-eq}
-use Prim.Native.Nat.{ℕ, zero, suc, _+_, _-_, _≤_, _<_}
+use mathlib.Core.List.{List, [], _∷_, _++_, append-nil, append-assoc, tail-eq-of-cons-eq}
+use Prim.Native.Nat.{ℕ, _≤_, _<_}
 use native.Mathlib.Omega.{arith}
 use lib.ListN.{length, take, drop, length-append, length-take, length-drop, take-append-drop}
 use lib.Seq.{drop-append-seam, take-append-seam}
@@ -14,10 +14,10 @@ use borrow.Author.Tests.{ltb-true, lt-ltb}
 use Rattle.definitions.specs.Words.{lyndon, cutOf}
 use Rattle.definitions.specs.Grammar.{leftOf, rightOf}
 use Rattle.lists.specs.Bools.{and-left, and-right, and-intro, not-so}
-use Rattle.lists.specs.Numbers.{split-le, split-lt, least-is}
+use Rattle.lists.specs.Numbers.{split-le, least-is}
 use Rattle.lists.specs.Lists.{empty, Overlap, within, across, overlap, split-same-left, split-same-right}
-use Rattle.lyndon.specs.Order.{Lt, Dif, Compare, equal, prefix, extends, smaller, greater, compared, dif-append, dif-lt, lt-cases, lt-irrefl, lt-trans, lt-asym, lt-prefix, lt-append, lt-cancel, total, not-lt}
-use Rattle.lyndon.specs.Words.{Lyndon, lyndon-is, is-lyndon, lyndon-append}
+use Rattle.lyndon.specs.Order.{Lt, Dif, Compare, equal, prefix, extends, smaller, greater, compared, dif-append, dif-lt, lt-cases, lt-trans, lt-asym, lt-prefix, lt-append, lt-cancel, total}
+use Rattle.lyndon.specs.Words.{Lyndon, lyndon-is, is-lyndon}
 
 -- v is the smallest proper suffix of u ++ v
 pub record Std (u v : List ℕ) : Type 0 where
@@ -71,23 +71,25 @@ std-exists (a ∷ b ∷ c ∷ w) h = go (std-exists (b ∷ c ∷ w) (omega arith
 
         whole : Lt rest v → Std (a ∷ []) rest
         whole l =
-            record
-            { left = omega arith
-            ; right = omega arith
-            ; least = λ p s hp hs q. ⊎-elim
-                (λ z. inl z)
-                (λ z. inr (⊎-elim (λ y. rw y l) (λ y. lt-trans rest v s l y) z))
-                (suffix p s hp hs q) }
+            record {
+              left = omega arith;
+              right = omega arith;
+              least = λ p s hp hs q. ⊎-elim
+                  (λ z. inl z)
+                  (λ z. inr (⊎-elim (λ y. rw y l) (λ y. lt-trans rest v s l y) z))
+                  (suffix p s hp hs q);
+            }
 
         part : (rest ≡ v) ⊎ Lt v rest → Std (a ∷ u) v
         part m =
-            record
-            { left = omega arith
-            ; right = d .right
-            ; least = λ p s hp hs q. ⊎-elim
-                (λ z. ⊎-elim (λ y. inl (z ∙ y)) (λ y. inr (rw z y)) m)
-                (λ z. z)
-                (suffix p s hp hs (ap (λ (x : List ℕ). a ∷ x) e ∙ q)) }
+            record {
+              left = omega arith;
+              right = d .right;
+              least = λ p s hp hs q. ⊎-elim
+                  (λ z. ⊎-elim (λ y. inl (z ∙ y)) (λ y. inr (rw z y)) m)
+                  (λ z. z)
+                  (suffix p s hp hs (ap (λ (x : List ℕ). a ∷ x) e ∙ q));
+            }
 
         pick : Lt rest v ⊎ ((rest ≡ v) ⊎ Lt v rest) → (u : List ℕ) × (v : List ℕ) × (a ∷ rest ≡ u ++ v) × Std u v
         pick (inl l) = (a ∷ [], rest, refl, whole l)
@@ -102,11 +104,12 @@ longest-std u v hu l longest = go (std-exists (u ++ v) (simp length-append (omeg
       where
         size : length u ≡ length x
         size =
-            omega
-            ( arith
-            , longest x y (d .left) e (std-lyndon x y d)
-            , std-longest x y d u v hu (sym e) l
-            , simp length-append at (ap length e))
+            omega (
+              arith,
+              longest x y (d .left) e (std-lyndon x y d),
+              std-longest x y d u v hu (sym e) l,
+              simp length-append at (ap length e),
+            )
 
         left : u ≡ x
         left = split-same-left u v x y e size
@@ -131,9 +134,9 @@ std-cut u v d = least-is test (length (u ++ v)) (length u) (simp length-append (
     before : (j : ℕ) → j < length u → test j ≡ false
     before j h = not-so (test j) (λ e.
         let big = std-longest u v d (take j (u ++ v)) (drop j (u ++ v))
-            (let z = ltb-true 0 j (and-left (ltb 0 j) (lyndon (drop j (u ++ v))) e) in simp (length-take, length-append) (omega arith))
-            (sym (take-append-drop j (u ++ v)))
-            (lyndon-is (drop j (u ++ v)) (and-right (ltb 0 j) (lyndon (drop j (u ++ v))) e)) in
+        (let z = ltb-true 0 j (and-left (ltb 0 j) (lyndon (drop j (u ++ v))) e) in simp (length-take, length-append) (omega arith))
+        (sym (take-append-drop j (u ++ v)))
+        (lyndon-is (drop j (u ++ v)) (and-right (ltb 0 j) (lyndon (drop j (u ++ v))) e)) in
         omega (arith, simp (length-drop, length-append) at big))
 
 pub std-left : (u v : List ℕ) → Std u v → leftOf (u ++ v) ≡ u

@@ -1,22 +1,22 @@
 -- The forest of a string, from right to left: a leaf, and while it is smaller than the next tree, their join.
 -- Its trees are Lyndon trees whose words do not rise (`forest-good`); the first word is the longest Lyndon word that begins the
--- string (`first-longest`); what follows the first tree is the forest of what follows its word (`forest-rest`); and the forest
+-- string (`longest-is`, `longest-most`); what follows the first tree is the forest of what follows its word (`forest-rest`); and the forest
 -- of a Lyndon word is its Lyndon tree alone (`forest-one`).
-use mathlib.Core.Path.{_≡_, refl, sym, _∙_, ap, ap₂, subst}
+use mathlib.Core.Path.{_≡_, refl, sym, _∙_, ap, subst}
 use mathlib.Core.Bool.{Bool, true, false}
-use mathlib.Core.Logic.{_⊎_, inl, inr, ⊎-elim}
+use mathlib.Core.Logic.{⊎-elim}
 use mathlib.Core.List.{List, [], _∷_, _++_, append-assoc, append-nil}
-use Prim.Native.Nat.{ℕ, zero, suc, _+_, _≤_, _<_}
+use Prim.Native.Nat.{ℕ, _≤_, _<_}
 use native.Mathlib.Omega.{arith}
-use lib.ListN.{length, drop, length-append}
-use lib.Seq.{drop-append-seam}
+use lib.ListN.{length, take, drop, length-append}
+use lib.Seq.{take-append-seam, drop-append-seam}
 use Rattle.definitions.specs.Words.{lexlt}
 use Rattle.definitions.specs.Grammar.{Tree, leaf, node, word, lyndonTree}
 use Rattle.lists.specs.Numbers.{split-le}
 use Rattle.lists.specs.Lists.{empty, Overlap, within, across, overlap}
-use Rattle.lyndon.specs.Order.{Lt, lexlt-lt, lexlt-not, lt-irrefl, lt-trans, lt-prefix, not-lt}
+use Rattle.lyndon.specs.Order.{Lt, lexlt-lt, lexlt-not, lt-trans, lt-prefix, not-lt}
 use Rattle.lyndon.specs.Words.{Lyndon}
-use Rattle.lyndon.specs.Factorization.{Std, std-one, std-join}
+use Rattle.lyndon.specs.Factorization.{std-one, std-join}
 use Rattle.lyndon.specs.Trees.{LyndonTree, word-filled, tree-lyndon, tree-unique}
 
 -- a tree before a forest is joined with its trees while it is smaller than the next
@@ -120,7 +120,7 @@ behind t (r ∷ f) x q a g e h =
         (λ n. more k p (ih k s n))
     go (across k n p s) ih = ([], x, refl, h, λ l. a (lt-trans (word t) x (word r) l (rw p (lt-prefix x k n))))
 
-pub first-longest : (t : Tree) (f : List Tree) (p q : List ℕ) → Good (t ∷ f) → spells (t ∷ f) ≡ p ++ q → Lyndon p
+first-longest : (t : Tree) (f : List Tree) (p q : List ℕ) → Good (t ∷ f) → spells (t ∷ f) ≡ p ++ q → Lyndon p
     → length p ≤ length (word t)
 unfolding spells
 first-longest t f p q g e l = go (overlap p q (word t) (spells f) (sym e))
@@ -139,6 +139,32 @@ first-longest t f p q g e l = go (overlap p q (word t) (spells f) (sym e))
             (rw u (lt-prefix (word t) k n))
             (l .least (word t ++ z) y (simp length-append (omega (arith, word-filled t))) m
             (u ∙ ap (λ (s : List ℕ). word t ++ s) e′ ∙ sym (append-assoc (word t) z y))))
+
+-- the length of the first word of a forest
+unfoldable pub firstLength : List Tree → ℕ
+firstLength [] = 0
+firstLength (t ∷ f) = length (word t)
+
+-- the length of the longest Lyndon word that begins s
+unfoldable pub longest : List ℕ → ℕ
+longest s = firstLength (forest s)
+
+-- it is one, and no longer prefix of s is
+pub longest-is : (s : List ℕ) → 0 < length s → Lyndon (take (longest s) s)
+unfolding longest firstLength spells
+longest-is s h = go (forest s) (forest-spells s) (forest-good s)
+  where
+    go : (f : List Tree) → spells f ≡ s → Good f → Lyndon (take (firstLength f) s)
+    go [] e g = absurd (omega (arith, ap length e))
+    go (t ∷ f) e g = subst (λ (x : List ℕ). Lyndon (take (length (word t)) x)) e (rw take-append-seam (tree-lyndon t (g .0)))
+
+pub longest-most : (s p q : List ℕ) → s ≡ p ++ q → Lyndon p → length p ≤ longest s
+unfolding longest firstLength spells
+longest-most s p q e l = go (forest s) (forest-spells s) (forest-good s)
+  where
+    go : (f : List Tree) → spells f ≡ s → Good f → length p ≤ firstLength f
+    go [] x g = absurd (omega (arith, l .filled, simp length-append at (ap length (x ∙ e))))
+    go (t ∷ f) x g = first-longest t f p q g (x ∙ e) l
 
 -- the forest of a Lyndon word is its Lyndon tree
 pub forest-one : (w : List ℕ) → Lyndon w → forest w ≡ lyndonTree w ∷ []

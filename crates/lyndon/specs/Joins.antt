@@ -1,20 +1,20 @@
 -- Occurrences at a join: those in u ++ v are those in u, those that straddle the join, and those in v moved on (`occurrences-join`);
 -- under a standard factorization the straddling ones are exactly those cut at a live cut (`straddling-cut`).
-use mathlib.Core.Path.{_≡_, refl, sym, _∙_, ap, ap₂, subst}
-use mathlib.Core.Bool.{Bool, true, false, cond, _&&_, _||_, false≢true}
+use mathlib.Core.Path.{_≡_, refl, sym, _∙_, ap, ap₂}
+use mathlib.Core.Bool.{Bool, true, false, _&&_, false≢true}
 use mathlib.Core.Logic.{_⊎_, inl, inr, ⊎-elim}
-use mathlib.Core.List.{List, [], _∷_, _++_, map, append-assoc, append-nil, List·Memᴰ as In, List·Memᴰ·head as here, List·Memᴰ·tail as there, List·Memᴰ·not-nil as in-nil, List·Memᴰ·cases-cons as in-cons}
-use Prim.Native.Nat.{ℕ, zero, suc, _+_, _-_, _≤_, _<_}
+use mathlib.Core.List.{List, [], _∷_, _++_, map, append-assoc, List·Memᴰ as In, List·Memᴰ·head as here, List·Memᴰ·tail as there, List·Memᴰ·not-nil as in-nil, List·Memᴰ·cases-cons as in-cons}
+use Prim.Native.Nat.{ℕ, suc, _+_, _-_, _≤_, _<_}
 use native.Mathlib.Omega.{arith}
 use lib.ListN.{length, drop, length-append, length-drop}
 use lib.Seq.{drop-append-add, drop-append-le}
 use lib.Dec.{ltb, eqb}
-use borrow.Author.Tests.{ltb-true, lt-ltb, le-ltb, eqb-true, eq-eqb}
+use borrow.Author.Tests.{ltb-true, lt-ltb, eqb-true, eq-eqb}
 use Rattle.definitions.specs.Words.{below, begins}
 use Rattle.definitions.specs.Occurrences.{occurrences, liveCuts, straddles, straddling, cutIn, cutAt}
-use Rattle.lists.specs.Bools.{either, bool-ext, not-so, and-left, and-right, and-intro, and-same, or-left, or-right, or-cases}
-use Rattle.lists.specs.Numbers.{split-le, below-ext, below-stop, below-append, below-split}
-use Rattle.lists.specs.Strings.{begins-rest, rest-begins}
+use Rattle.lists.specs.Bools.{bool-ext, not-so, and-left, and-right, and-intro, and-same, or-left, or-right, or-cases}
+use Rattle.lists.specs.Numbers.{below-ext, below-stop, below-append, below-split}
+use Rattle.lists.specs.Strings.{begins-rest}
 use Rattle.lyndon.specs.Factorization.{Std}
 use Rattle.lyndon.specs.Cuts.{Live, live-cut, Straddle, straddle-view, straddle-live}
 
@@ -115,16 +115,18 @@ occurrences-join p u v hp =
     h i = f i && (ltb i n && ltb n (i + length p))
 
     in-left : (k : ℕ) → k < n → k < suc n - length p → (f k ≡ g k) × (h k ≡ false)
-    in-left k l m =
-        ( ap (begins p) (drop-append-le k u v (omega arith)) ∙ begins-front p (drop k u) v (simp length-drop (omega arith))
-        , not-so (h k) (λ e. let z = ltb-true n (k + length p) (and-right (ltb k n) (ltb n (k + length p)) (and-right (f k) (ltb k n && ltb n (k + length p)) e)) in omega arith))
+    in-left k l m = (
+      ap (begins p) (drop-append-le k u v (omega arith)) ∙ begins-front p (drop k u) v (simp length-drop (omega arith)),
+      not-so (h k) (λ e. let z = ltb-true n (k + length p) (and-right (ltb k n) (ltb n (k + length p)) (and-right (f k) (ltb k n && ltb n (k + length p)) e)) in omega arith),
+    )
 
     at-join : (k : ℕ) → k < n → suc n - length p ≤ k → (f k ≡ h k) × (g k ≡ false)
-    at-join k l m =
-        ( bool-ext (f k) (h k)
-            (λ e. and-intro (f k) (ltb k n && ltb n (k + length p)) e (and-intro (ltb k n) (ltb n (k + length p)) (lt-ltb k n l) (lt-ltb n (k + length p) (omega arith))))
-            (λ e. and-left (f k) (ltb k n && ltb n (k + length p)) e)
-        , begins-short p (drop k u) (simp length-drop (omega arith)))
+    at-join k l m = (
+      bool-ext (f k) (h k)
+          (λ e. and-intro (f k) (ltb k n && ltb n (k + length p)) e (and-intro (ltb k n) (ltb n (k + length p)) (lt-ltb k n l) (lt-ltb n (k + length p) (omega arith))))
+          (λ e. and-left (f k) (ltb k n && ltb n (k + length p)) e),
+      begins-short p (drop k u) (simp length-drop (omega arith)),
+    )
 
     -- those in u end before its end, and those that straddle begin before it
     g-stops : below g (suc n) ≡ below g n

@@ -1,19 +1,18 @@
 -- The strings of a Lyndon tree in the order in which they are first met: no string twice, each behind its parts (`order-numbered`),
 -- the root's last (`order-root`), every other a half of a later one (`order-half`).
 -- That x stands among the strings S is `Has S x`: the index of x is below the length.
-use mathlib.Core.Path.{_≡_, refl, sym, _∙_, ap, ap₂, subst}
-use mathlib.Core.Bool.{Bool, true, false, cond}
+use mathlib.Core.Path.{_≡_, refl, sym, _∙_, ap, subst}
+use mathlib.Core.Bool.{true, false}
 use mathlib.Core.Logic.{_⊎_, inl, inr, ⊎-elim}
 use mathlib.Core.List.{List, [], _∷_, _++_, append-assoc, append-nil}
-use Prim.Native.Nat.{ℕ, zero, suc, _+_, _-_, _≤_, _<_}
+use Prim.Native.Nat.{ℕ, zero, suc, _≤_, _<_}
 use native.Mathlib.Omega.{arith}
 use lib.ListN.{length, getD, length-append, List·getD-append}
 use lib.Seq.{getD-append-seam}
-use lib.Dec.{ltb}
-use borrow.Author.Tests.{ltb-true, ltb-false, lt-ltb, le-ltb}
+use borrow.Author.Tests.{lt-ltb, le-ltb}
 use Rattle.definitions.specs.Words.{same}
 use Rattle.definitions.specs.Grammar.{Tree, leaf, node, word, lyndonTree, leftOf, rightOf, indexOf, meet, visit, order}
-use Rattle.lists.specs.Bools.{either, cond-true, cond-false}
+use Rattle.lists.specs.Bools.{either}
 use Rattle.lists.specs.Numbers.{split-le, split-lt}
 use Rattle.lists.specs.Strings.{same-eq, same-self, eq-same}
 use Rattle.lyndon.specs.Words.{Lyndon}
@@ -145,10 +144,11 @@ pub record Numbered (S : List (List ℕ)) : Type 0 where
 
 pub none-numbered : Numbered []
 none-numbered =
-    record
-    { once = λ i h. absurd (omega arith)
-    ; filled = λ x h. absurd (omega arith)
-    ; parts = λ x h. absurd (omega arith) }
+    record {
+      once = λ i h. absurd (omega arith);
+      filled = λ x h. absurd (omega arith);
+      parts = λ x h. absurd (omega arith);
+    }
 
 -- both parts of x stand in S, if it has parts
 abbrev pub Fits : List (List ℕ) → List ℕ → Type 0

@@ -2,22 +2,22 @@
 -- (`occurrences-rising`), none before the first, between two neighbours or after the last, and the list is empty exactly when the
 -- pattern begins nowhere. Those in mark ++ text are those in the text, one further on (`occurrences-marked`).
 use mathlib.Core.Path.{_≡_, refl, sym, _∙_, ap, ap₂, subst}
-use mathlib.Core.Bool.{Bool, true, false, cond, _&&_, false≢true}
-use mathlib.Core.Logic.{_⊎_, inl, inr, ⊎-elim, _↔_}
-use mathlib.Core.List.{List, [], _∷_, _++_, map, append-assoc, append-nil, List·Memᴰ as In, List·Memᴰ·head as here, List·Memᴰ·tail as there, List·Memᴰ·not-nil as in-nil, List·Memᴰ·append-cases as in-append, Memᴰ·append-right as in-right, List·Memᴰ·cases-cons as in-cons}
-use Prim.Native.Nat.{ℕ, zero, suc, _+_, _-_, _≤_, _<_}
+use mathlib.Core.Bool.{Bool, true, false, _&&_}
+use mathlib.Core.Logic.{⊎-elim, _↔_}
+use mathlib.Core.List.{List, [], _∷_, _++_, map, List·Memᴰ as In, List·Memᴰ·head as here, List·Memᴰ·tail as there, List·Memᴰ·not-nil as in-nil, Memᴰ·append-right as in-right, List·Memᴰ·cases-cons as in-cons}
+use Prim.Native.Nat.{ℕ, zero, suc, _+_, _≤_, _<_}
 use native.Mathlib.Omega.{arith}
-use lib.ListN.{length, take, drop, length-append, length-drop, length-take, length-map, take-append-drop, drop-of-length-le}
+use lib.ListN.{length, take, drop, length-append, length-drop, length-map, take-append-drop}
 use lib.Seq.{take-append-seam}
 use lib.Dec.{eqb}
 use borrow.Author.Tests.{eqb-true, eq-eqb, ne-eqb}
 use Rattle.definitions.specs.declared.Order.{Order}
-use Rattle.definitions.specs.Words.{below, begins}
+use Rattle.definitions.specs.Words.{begins}
 use Rattle.definitions.specs.Table.{rankOf, byteOf, marked}
 use Rattle.definitions.specs.Occurrences.{occurrences}
-use Rattle.lists.specs.Bools.{either, contra, bool-ext, not-so}
-use Rattle.lists.specs.Numbers.{split-le, split-lt, Rising, below-in, below-lt, below-rising, below-ext, below-shift}
-use Rattle.lists.specs.Strings.{begins-rest, begins-append, rest-begins}
+use Rattle.lists.specs.Bools.{bool-ext}
+use Rattle.lists.specs.Numbers.{Rising, below-in, below-lt, below-rising, below-ext, below-shift}
+use Rattle.lists.specs.Strings.{begins-rest, rest-begins}
 use Rattle.lyndon.specs.Ranks.{Bytes, byte-of-rank, rank-range}
 
 -- p begins at place i of s
@@ -26,9 +26,10 @@ BeginsAt p s i = (i + length p ≤ length s) × (take (length p) (drop i s) ≡ 
 
 pub begins-at : (p s : List ℕ) (i : ℕ) → i ≤ length s → begins p (drop i s) ≡ true → BeginsAt p s i
 begins-at p s i h e =
-    let (r, q) = begins-rest p (drop i s) e in
-    ( omega (arith, simp (length-append, length-drop) at (ap length q))
-    , ap (take (length p)) q ∙ take-append-seam p r)
+    let (r, q) = begins-rest p (drop i s) e in (
+      omega (arith, simp (length-append, length-drop) at (ap length q)),
+      ap (take (length p)) q ∙ take-append-seam p r,
+    )
 
 pub at-begins : (p s : List ℕ) (i : ℕ) → BeginsAt p s i → begins p (drop i s) ≡ true
 at-begins p s i (h, e) =
@@ -92,9 +93,10 @@ none-after p s l j e i h b =
 
 -- the list is empty exactly when the pattern begins nowhere
 pub empty-nowhere : (p s : List ℕ) → (occurrences p s ≡ []) ↔ ((i : ℕ) → BeginsAt p s i → ⊥)
-empty-nowhere p s =
-    ( λ e i b. in-nil (subst (λ (x : List ℕ). In i x) e (is-occurrence p s i b))
-    , λ h. none (occurrences p s) (λ i m. h i (occurrence-is p s i m)))
+empty-nowhere p s = (
+  λ e i b. in-nil (subst (λ (x : List ℕ). In i x) e (is-occurrence p s i b)),
+  λ h. none (occurrences p s) (λ i m. h i (occurrence-is p s i m)),
+)
   where
     none : (l : List ℕ) → ((i : ℕ) → In i l → ⊥) → l ≡ []
     none [] h = refl

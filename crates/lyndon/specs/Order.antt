@@ -1,16 +1,16 @@
 -- The order of strings is a strict total order, and `lexlt` decides it.
 -- Beside it stands `Dif`, smaller at the first difference, which what follows the two strings cannot change.
-use mathlib.Core.Path.{_≡_, refl, sym, _∙_, ap, ap₂, subst}
-use mathlib.Core.Bool.{Bool, true, false, _&&_, _||_, false≢true}
+use mathlib.Core.Path.{_≡_, refl, sym, _∙_, ap₂}
+use mathlib.Core.Bool.{true, false, _&&_, _||_, false≢true}
 use mathlib.Core.Logic.{_⊎_, inl, inr, ⊎-elim}
-use mathlib.Core.List.{List, [], _∷_, _++_, append-nil}
-use Prim.Native.Nat.{ℕ, zero, suc, _+_, _≤_, _<_}
+use mathlib.Core.List.{List, [], _∷_, _++_}
+use Prim.Native.Nat.{ℕ, _<_}
 use native.Mathlib.Omega.{arith}
-use lib.ListN.{length, length-append}
+use lib.ListN.{length}
 use lib.Dec.{ltb, eqb}
 use borrow.Author.Tests.{ltb-true, lt-ltb, eqb-true, eq-eqb}
 use Rattle.definitions.specs.Words.{lexlt}
-use Rattle.lists.specs.Bools.{either, bool-ext, and-left, and-right, and-intro, or-left, or-right, or-cases, not-so}
+use Rattle.lists.specs.Bools.{and-left, and-right, and-intro, or-left, or-right, or-cases}
 use Rattle.lists.specs.Numbers.{split-lt}
 
 -- x is smaller than y

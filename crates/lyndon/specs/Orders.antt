@@ -1,22 +1,21 @@
 -- The strings of a word's grammar, by number: the root's is the last (`order-root`), every other is a half of a later one
 -- (`order-half`), and there are at most as many as symbols of the alphabet and joins (`order-size`).
-use mathlib.Core.Path.{_≡_, refl, sym, _∙_, ap, ap₂, subst}
-use mathlib.Core.Bool.{Bool, true, false, cond}
+use mathlib.Core.Path.{_≡_, refl, sym, _∙_, ap, subst}
 use mathlib.Core.Logic.{_⊎_, inl, inr, ⊎-elim}
 use mathlib.Core.List.{List, [], _∷_, _++_, List·Memᴰ as In, List·Memᴰ·head as here, Memᴰ·append-left as in-left, Memᴰ·append-right as in-right}
-use Prim.Native.Nat.{ℕ, zero, suc, _+_, _-_, _≤_, _<_}
+use Prim.Native.Nat.{ℕ, suc, _+_, _-_, _≤_, _<_}
 use native.Mathlib.Omega.{arith}
 use lib.ListN.{length, getD, length-append}
 use lib.Seq.{getD-append-seam}
 use lib.Dec.{ltb}
-use borrow.Author.Tests.{ltb-true, ltb-false, lt-ltb, le-ltb}
+use borrow.Author.Tests.{ltb-true, lt-ltb, le-ltb}
 use Rattle.definitions.specs.Words.{below}
 use Rattle.definitions.specs.Grammar.{Tree, leaf, node, word, lyndonTree, leftOf, rightOf, indexOf, meet, visit, order}
 use Rattle.lists.specs.Numbers.{split-le, below-length, count-le, count-lt}
 use Rattle.lyndon.specs.Words.{Lyndon}
 use Rattle.lyndon.specs.Factorization.{std-left, std-right}
-use Rattle.lyndon.specs.Trees.{LyndonTree, TreeOf, word-filled, tree-of}
-use Rattle.lyndon.specs.Numbering.{Has, Numbered, Extends, index-le, index-at, index-new, index-cases, meet-old, meet-new, meet-has, meet-extends, extends-has, visit-extends, visit-has, order-numbered}
+use Rattle.lyndon.specs.Trees.{LyndonTree, word-filled, tree-of}
+use Rattle.lyndon.specs.Numbering.{Has, Numbered, Extends, index-at, index-cases, meet-old, meet-new, meet-has, meet-extends, extends-has, visit-extends, order-numbered}
 
 -- what was met after x stood there, or is x
 meet-cases : (S : List (List ℕ)) (x y : List ℕ) → Has (meet S x) y → Has S y ⊎ (y ≡ x)
@@ -46,10 +45,11 @@ order-all P halves w h p x k =
 visit-last : (t : Tree) → (S : List (List ℕ)) × (visit [] t ≡ S ++ (word t ∷ []))
 unfolding visit word
 visit-last (leaf a) = ([], meet-new [] (a ∷ []) (omega arith))
-visit-last (node l r) =
-    ( visit (visit [] l) r
-    , meet-new (visit (visit [] l) r) (word l ++ word r)
-    (split-le (length (visit (visit [] l) r)) (indexOf (word l ++ word r) (visit (visit [] l) r)) (λ h. h) (λ h. old h (length (word l) + length (word r) - 1) (omega (arith, word-filled l, word-filled r)))))
+visit-last (node l r) = (
+  visit (visit [] l) r,
+  meet-new (visit (visit [] l) r) (word l ++ word r)
+      (split-le (length (visit (visit [] l) r)) (indexOf (word l ++ word r) (visit (visit [] l) r)) (λ h. h) (λ h. old h (length (word l) + length (word r) - 1) (omega (arith, word-filled l, word-filled r)))),
+)
   where
     old : Has (visit (visit [] l) r) (word l ++ word r) → (n : ℕ) → suc n ≡ length (word l) + length (word r)
         → length (visit (visit [] l) r) ≤ indexOf (word l ++ word r) (visit (visit [] l) r)
@@ -156,8 +156,8 @@ order-half w h i l = go (visit-half [] (lyndonTree w) (tree-of w h .0) y has)
         let (p, q) = n .parts z hz two in
         let e = index-at z S hz in
         let before : indexOf y S < indexOf z S = ⊎-elim
-                (λ x. subst (λ (v : List ℕ). indexOf v S < indexOf z S) x p)
-                (λ x. subst (λ (v : List ℕ). indexOf v S < indexOf z S) x q) half in
+        (λ x. subst (λ (v : List ℕ). indexOf v S < indexOf z S) x p)
+        (λ x. subst (λ (v : List ℕ). indexOf v S < indexOf z S) x q) half in
         (indexOf z S, omega (arith, at), hz, rw e two, rw e half)
 
 -- ---- how many there are

@@ -1,23 +1,23 @@
 -- Demand 3 on pair rules: in every accepted table the two halves of a pair rule are its string's standard factorization
 -- (`pair-halves`), the occurrences that straddle its join are exactly those cut there at a live cut (`pair-straddling`), and its
 -- occurrences are those in the left half, those, and those in the right half moved on (`pair-occurrences`).
-use mathlib.Core.Path.{_≡_, refl, sym, _∙_, ap, ap₂, subst}
-use mathlib.Core.Bool.{Bool, true, false, _&&_}
-use mathlib.Core.List.{List, [], _∷_, _++_, map}
-use Prim.Native.Nat.{ℕ, zero, suc, _+_, _*_, _/_, _≤_, _<_}
+use mathlib.Core.Path.{_≡_, sym, _∙_, ap, ap₂, subst}
+use mathlib.Core.Bool.{true}
+use mathlib.Core.List.{List, [], _++_, map}
+use Prim.Native.Nat.{ℕ, _+_, _*_, _/_, _<_}
 use native.Mathlib.Omega.{arith}
 use lib.ListN.{length, getD}
 use lib.Dec.{ltb, eqb}
 use borrow.Author.Tests.{ltb-true, eqb-true}
 use Rattle.definitions.specs.declared.Order.{Order}
 use Rattle.definitions.specs.Grammar.{leftOf, rightOf, order}
-use Rattle.definitions.specs.Table.{numberOfRank, marked, words, wordOf, kindOf, numberOf, tableOf, isTable, textOf, chairOf, isPair, leftHalf, rightHalf, ruleString}
+use Rattle.definitions.specs.Table.{numberOfRank, marked, words, kindOf, numberOf, tableOf, isTable, textOf, chairOf, isPair, leftHalf, rightHalf, ruleString}
 use Rattle.definitions.specs.Occurrences.{occurrences, liveCuts, straddling, cutAt}
 use Rattle.lists.specs.Bools.{and-left, and-right}
 use Rattle.lyndon.specs.Factorization.{Std, std-parts}
 use Rattle.lyndon.specs.Rules.{rulesFor}
 use Rattle.lyndon.specs.Ranks.{number-range}
-use Rattle.lyndon.specs.Tables.{Storable, Entry, one, two, entry, word-kind, word-number}
+use Rattle.lyndon.specs.Tables.{Entry, one, two, entry, word-kind, word-number}
 use Rattle.lyndon.specs.Reading.{Stored, storable, order-most, table-words, table-rules, table-strings, accepted-stored, accepted-table}
 use Rattle.lyndon.specs.Joins.{straddling-cut, occurrences-join}
 

@@ -1,9 +1,9 @@
 -- Bytes, ranks and symbol numbers: each gives the others back. The marked text is a Lyndon word over 257 symbols.
-use mathlib.Core.Path.{_≡_, refl, sym, _∙_, ap, ap₂, subst}
-use mathlib.Core.Bool.{Bool, true, false, _&&_}
+use mathlib.Core.Path.{_≡_, refl, sym, ap, ap₂, subst}
+use mathlib.Core.Bool.{Bool, true}
 use mathlib.Core.Logic.{_⊎_, inl, inr, ⊎-elim}
-use mathlib.Core.List.{List, [], _∷_, _++_, map, tail-eq-of-cons-eq, List·Memᴰ as In, List·Memᴰ·head as here, List·Memᴰ·tail as there, List·Memᴰ·not-nil as in-nil, List·Memᴰ·cases-cons as in-cons, Memᴰ·append-right as in-right, Memᴰ·cast as in-cast}
-use Prim.Native.Nat.{ℕ, zero, suc, _+_, _-_, _≤_, _<_}
+use mathlib.Core.List.{List, [], _∷_, _++_, map, tail-eq-of-cons-eq, List·Memᴰ as In, List·Memᴰ·head as here, List·Memᴰ·tail as there, List·Memᴰ·not-nil as in-nil, List·Memᴰ·cases-cons as in-cons, Memᴰ·append-right as in-right}
+use Prim.Native.Nat.{ℕ, zero, suc, _≤_, _<_}
 use native.Mathlib.Omega.{arith}
 use lib.ListN.{length, getD, length-map}
 use lib.Dec.{ltb, leb}
@@ -74,9 +74,10 @@ slice-bytes text h b m = let (i, k, e) = in-at b text m in subst (λ (x : ℕ). 
 pub drive-is : (text : List ℕ) → isDrive text ≡ true → (length text ≤ 2047) × Bytes text
 unfolding isDrive
 drive-is text e =
-    let test : ℕ → Bool = λ i. ltb (getD text i 0) 256 in
-    ( leb-true (length text) 2047 (and-left (leb (length text) 2047) (every test (length text)) e)
-    , slice-bytes text (λ i h. ltb-true (getD text i 0) 256 (every-at test (length text) (and-right (leb (length text) 2047) (every test (length text)) e) i h)))
+    let test : ℕ → Bool = λ i. ltb (getD text i 0) 256 in (
+      leb-true (length text) 2047 (and-left (leb (length text) 2047) (every test (length text)) e),
+      slice-bytes text (λ i h. ltb-true (getD text i 0) 256 (every-at test (length text) (and-right (leb (length text) 2047) (every test (length text)) e) i h)),
+    )
 
 pub is-drive : (text : List ℕ) → length text ≤ 2047 → Bytes text → isDrive text ≡ true
 unfolding isDrive

@@ -1,11 +1,11 @@
 -- Reading back: the table of a drive and a chair number spells that drive and gives that number (`table-text`, `table-chair`),
 -- has at most 4,608 words (`table-size`), none of them bad (`table-no-bad`), and a table is accepted exactly when it is the table
 -- of some drive and chair number (`accepted`).
-use mathlib.Core.Path.{_≡_, refl, sym, _∙_, ap, ap₂, subst}
-use mathlib.Core.Bool.{Bool, true, false, _&&_}
+use mathlib.Core.Path.{_≡_, refl, sym, _∙_, ap, subst}
+use mathlib.Core.Bool.{Bool, true, _&&_}
 use mathlib.Core.Logic.{_↔_}
-use mathlib.Core.List.{List, [], _∷_, _++_, map, List·Memᴰ as In, Memᴰ·append-left as in-left, Memᴰ·append-right as in-right}
-use Prim.Native.Nat.{ℕ, zero, suc, _+_, _-_, _*_, _/_, _≤_, _<_, _^_}
+use mathlib.Core.List.{List, _++_, map, List·Memᴰ as In, Memᴰ·append-left as in-left, Memᴰ·append-right as in-right}
+use Prim.Native.Nat.{ℕ, _*_, _/_, _≤_, _<_}
 use native.Mathlib.Omega.{arith}
 use lib.ListN.{length, drop, getD}
 use lib.Dec.{leb}
@@ -13,11 +13,11 @@ use borrow.Author.Tests.{leb-true, le-leb}
 use Rattle.definitions.specs.declared.Order.{Order}
 use Rattle.definitions.specs.Words.{least, same}
 use Rattle.definitions.specs.Grammar.{order, rulesOf}
-use Rattle.definitions.specs.Table.{rankOf, byteOf, marked, wordOf, numberOf, words, tableOf, badWord, strings, ruleString, spelled, textOf, chairOf, isDrive, isChair, isTable}
+use Rattle.definitions.specs.Table.{byteOf, marked, numberOf, words, tableOf, badWord, strings, ruleString, spelled, textOf, chairOf, isDrive, isChair, isTable}
 use Rattle.lists.specs.Bools.{and-left, and-right, and-intro}
 use Rattle.lists.specs.Strings.{same-eq, same-self}
 use Rattle.lyndon.specs.Words.{Lyndon}
-use Rattle.lyndon.specs.Numbering.{Has, Numbered, order-numbered}
+use Rattle.lyndon.specs.Numbering.{order-numbered}
 use Rattle.lyndon.specs.Orders.{order-all, order-filled, order-root, order-size}
 use Rattle.lyndon.specs.Rules.{rulesFor, rules-length}
 use Rattle.lyndon.specs.Ranks.{Bytes, drive-is, is-drive, bytes-back, marked-lyndon, marked-symbols, marked-length}
@@ -36,19 +36,21 @@ module _ (o : Order) (text : List ℕ) (chair : ℕ) (ok : Stored text chair) wh
   -- the strings of the drive's grammar, by number: at most 2,304
   pub order-most : length (order (marked o text)) ≤ 2304
   order-most =
-      omega
-      ( arith
-      , order-size 257 (marked o text) word-lyndon (marked-symbols o text (ok .bytes))
-      , marked-length o text
-      , ok .short)
+      omega (
+        arith,
+        order-size 257 (marked o text) word-lyndon (marked-symbols o text (ok .bytes)),
+        marked-length o text,
+        ok .short,
+      )
 
   pub storable : Storable (order (marked o text)) chair
   storable =
-      record
-      { numbered = order-numbered (marked o text) word-lyndon
-      ; symbols = order-all (λ x. (a : ℕ) → In a x → a < 257) halves (marked o text) word-lyndon (marked-symbols o text (ok .bytes))
-      ; size = omega (arith, order-most)
-      ; chair = ok .chairs }
+      record {
+        numbered = order-numbered (marked o text) word-lyndon;
+        symbols = order-all (λ x. (a : ℕ) → In a x → a < 257) halves (marked o text) word-lyndon (marked-symbols o text (ok .bytes));
+        size = omega (arith, order-most);
+        chair = ok .chairs;
+      }
     where
       halves : (u v : List ℕ) → ((a : ℕ) → In a (u ++ v) → a < 257) → ((a : ℕ) → In a u → a < 257) × ((a : ℕ) → In a v → a < 257)
       halves u v h = (λ a m. h a (in-left v m), λ a m. h a (in-right u m))
@@ -113,10 +115,11 @@ unfolding isTable isChair
 accepted-stored o t e =
     let (short, bytes) = drive-is (textOf o t) (and-left (isDrive (textOf o t)) (isChair (chairOf t) && spells) e) in
     let rest = and-right (isDrive (textOf o t)) (isChair (chairOf t) && spells) e in
-    record
-    { short = short
-    ; bytes = bytes
-    ; chairs = omega (arith, leb-true (chairOf t) 65535 (and-left (isChair (chairOf t)) spells rest)) }
+    record {
+      short = short;
+      bytes = bytes;
+      chairs = omega (arith, leb-true (chairOf t) 65535 (and-left (isChair (chairOf t)) spells rest));
+    }
   where
     spells : Bool
     spells = same (tableOf o (textOf o t) (chairOf t)) t
@@ -132,12 +135,14 @@ accepted-table o t e =
 
 pub accepted : (o : Order) (t : List ℕ)
     → (isTable o t ≡ true) ↔ ((text : List ℕ) × (chair : ℕ) × Stored text chair × (t ≡ tableOf o text chair))
-accepted o t =
-    ( λ e. (textOf o t, chairOf t, accepted-stored o t e, sym (accepted-table o t e))
-    , λ (text, chair, ok, e). subst (λ (x : List ℕ). isTable o x ≡ true) (sym e) (table-accepted o text chair ok))
+accepted o t = (
+  λ e. (textOf o t, chairOf t, accepted-stored o t e, sym (accepted-table o t e)),
+  λ (text, chair, ok, e). subst (λ (x : List ℕ). isTable o x ≡ true) (sym e) (table-accepted o text chair ok),
+)
 
 -- two tables are equal only if both drive and chair number are
 pub table-injective : (o : Order) (x y : List ℕ) (c d : ℕ) → Stored x c → Stored y d → tableOf o x c ≡ tableOf o y d → (x ≡ y) × (c ≡ d)
-table-injective o x y c d h k e =
-    ( sym (table-text o x c h) ∙ ap (textOf o) e ∙ table-text o y d k
-    , sym (table-chair o x c h) ∙ ap chairOf e ∙ table-chair o y d k)
+table-injective o x y c d h k e = (
+  sym (table-text o x c h) ∙ ap (textOf o) e ∙ table-text o y d k,
+  sym (table-chair o x c h) ∙ ap chairOf e ∙ table-chair o y d k,
+)

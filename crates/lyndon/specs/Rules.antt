@@ -1,10 +1,10 @@
 -- Numbering by pairs: a new rule is looked up by its symbol or by its pair of rule numbers, and gets the same number as its
 -- string does (`number-tree`). So numbering the Lyndon tree of a word gives the rules of the definition (`number-rules`).
-use mathlib.Core.Path.{_≡_, refl, sym, _∙_, ap, ap₂, subst}
+use mathlib.Core.Path.{_≡_, refl, sym, _∙_, ap, ap₂}
 use mathlib.Core.Bool.{Bool, true, false, cond, _&&_, false≢true}
-use mathlib.Core.Logic.{_⊎_, inl, inr, ⊎-elim}
+use mathlib.Core.Logic.{⊎-elim}
 use mathlib.Core.List.{List, [], _∷_, _++_, map, map-append, List·Memᴰ as In, List·Memᴰ·head as here, List·Memᴰ·tail as there, List·Memᴰ·not-nil as in-nil, List·Memᴰ·cases-cons as in-cons}
-use Prim.Native.Nat.{ℕ, zero, suc, _+_, _≤_, _<_}
+use Prim.Native.Nat.{ℕ, zero, suc, _≤_, _<_}
 use native.Mathlib.Omega.{arith}
 use lib.ListN.{length, getD, length-append, length-map}
 use lib.Dec.{ltb, eqb}
@@ -13,11 +13,11 @@ use Rattle.definitions.specs.Words.{same}
 use Rattle.definitions.specs.Grammar.{Tree, leaf, node, word, lyndonTree, leftOf, rightOf, indexOf, meet, visit, order, Rule, symbol, pair, ruleOf, rulesOf}
 use Rattle.lists.specs.Bools.{either, contra, bool-ext, and-left, and-right, and-intro}
 use Rattle.lists.specs.Numbers.{split-le}
-use Rattle.lists.specs.Strings.{same-eq, same-self, eq-same}
+use Rattle.lists.specs.Strings.{same-eq, eq-same}
 use Rattle.lyndon.specs.Words.{Lyndon}
-use Rattle.lyndon.specs.Factorization.{Std, std-left, std-right, std-parts}
+use Rattle.lyndon.specs.Factorization.{std-left, std-right, std-parts}
 use Rattle.lyndon.specs.Trees.{LyndonTree, word-filled, tree-of}
-use Rattle.lyndon.specs.Numbering.{Has, Numbered, Extends, Fits, index-found, index-later, index-le, index-at, index-first, index-append, meet-old, meet-new, meet-has, meet-index, extends-has, extends-index, visit-extends, visit-has, visit-numbered, meet-numbered, none-numbered, node-fits, parts-fit}
+use Rattle.lyndon.specs.Numbering.{Has, Numbered, Extends, Fits, index-found, index-later, index-at, meet-old, meet-new, meet-index, extends-has, extends-index, visit-extends, visit-has, visit-numbered, none-numbered, node-fits, parts-fit}
 
 -- ---- the model: a list of rules, and where a rule stands in it
 

@@ -1,18 +1,18 @@
 -- The words of a table, rule by rule: what each decodes to (`word-kind`, `word-number`), that none is bad (`no-bad-word`), and that
 -- the rules of numbered strings spell these strings (`strings-back`).
-use mathlib.Core.Path.{_≡_, refl, sym, _∙_, ap, ap₂, subst}
-use mathlib.Core.Bool.{Bool, true, false, cond, not, _&&_, _||_}
-use mathlib.Core.List.{List, [], _∷_, _++_, map, append-nil, List·Memᴰ as In, List·Memᴰ·head as here}
+use mathlib.Core.Path.{_≡_, refl, sym, _∙_, ap, subst}
+use mathlib.Core.Bool.{false, cond}
+use mathlib.Core.List.{List, [], _∷_, map, List·Memᴰ as In, List·Memᴰ·head as here}
 use Prim.Native.Nat.{ℕ, zero, suc, _+_, _-_, _*_, _/_, _%_, _^_, _≤_, _<_}
 use native.Mathlib.Omega.{arith}
-use lib.ListN.{length, take, getD, length-append, List·getD-map}
+use lib.ListN.{length, take, getD, List·getD-map}
 use lib.Seq.{take-suc, getD-take, take-length}
-use lib.Dec.{ltb, leb, eqb}
+use lib.Dec.{eqb}
 use borrow.Author.Tests.{lt-ltb, le-leb, eq-eqb, ne-eqb}
 use Rattle.definitions.specs.declared.Order.{Order}
 use Rattle.definitions.specs.Words.{least}
 use Rattle.definitions.specs.Grammar.{leftOf, rightOf, indexOf, Rule, symbol, pair, ruleOf}
-use Rattle.definitions.specs.Table.{numberOfRank, rankOfNumber, wordOf, kindOf, numberOf, ruleWords, words, badFirst, badSecond, badWord, stringOf, strings}
+use Rattle.definitions.specs.Table.{numberOfRank, wordOf, kindOf, numberOf, ruleWords, words, badFirst, badSecond, badWord, stringOf, strings}
 use Rattle.lists.specs.Numbers.{split-le, least-none}
 use Rattle.lyndon.specs.Factorization.{std-parts}
 use Rattle.lyndon.specs.Numbering.{Has, Numbered, index-at}
@@ -212,16 +212,17 @@ module _ (o : Order) (S : List (List ℕ)) (c : ℕ) (ok : Storable S c) where
       rw (f, word-kind 0 (numberOfRank o a) (omega arith), word-number 0 (numberOfRank o a) (omega arith), rank-of-number o a l, e)
   string-back r h (two i j p q k e g f s) =
       let size = ok .size in
-      rw
-      ( f
-      , s
-      , word-kind 1 i (omega arith)
-      , word-number 1 i (omega arith)
-      , word-number 2 j (omega arith)
-      , getD-take r S i [] p
-      , getD-take r S j [] q
-      , e
-      , g)
+      rw (
+        f,
+        s,
+        word-kind 1 i (omega arith),
+        word-number 1 i (omega arith),
+        word-number 2 j (omega arith),
+        getD-take r S i [] p,
+        getD-take r S j [] q,
+        e,
+        g,
+      )
       (sym (std-parts (getD S r []) k .0))
 
   strings-front : (n : ℕ) → n ≤ length S → strings o (words o c (rulesFor S)) n ≡ take n S

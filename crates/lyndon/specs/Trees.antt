@@ -1,13 +1,11 @@
 -- The Lyndon tree: `lyndonTree` of a Lyndon word is a tree of standard factorizations that spells the word (`tree-of`),
 -- and it is the only one (`tree-unique`).
 use mathlib.Core.Path.{_≡_, refl, sym, _∙_, ap, ap₂, subst}
-use mathlib.Core.Bool.{Bool, true, false}
 use mathlib.Core.List.{List, [], _∷_, _++_}
-use Prim.Native.Nat.{ℕ, zero, suc, _+_, _≤_, _<_}
+use Prim.Native.Nat.{ℕ, zero, suc, _≤_, _<_}
 use native.Mathlib.Omega.{arith}
 use native.Mathlib.Nat.{le-refl}
 use lib.ListN.{length, getD, length-append}
-use lib.Dec.{ltb}
 use borrow.Author.Tests.{lt-ltb, le-ltb}
 use Rattle.definitions.specs.Grammar.{Tree, leaf, node, word, split, lyndonTree, leftOf, rightOf}
 use Rattle.lists.specs.Numbers.{split-le}

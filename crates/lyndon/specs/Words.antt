@@ -1,20 +1,20 @@
 -- Lyndon words: `lyndon` decides them, and the concatenation of two, the smaller first, is one (`lyndon-append`).
 -- A suffix is written as an equation, w ≡ p ++ s.
-use mathlib.Core.Path.{_≡_, refl, sym, _∙_, ap, ap₂, subst}
-use mathlib.Core.Bool.{Bool, true, false, _&&_, _||_, false≢true}
-use mathlib.Core.Logic.{_⊎_, inl, inr, ⊎-elim}
-use mathlib.Core.List.{List, [], _∷_, _++_, append-nil, append-assoc, append-cancel-left}
-use Prim.Native.Nat.{ℕ, zero, suc, _+_, _≤_, _<_}
+use mathlib.Core.Path.{_≡_, sym, _∙_, ap, subst}
+use mathlib.Core.Bool.{Bool, true, _||_}
+use mathlib.Core.Logic.{_⊎_, inl, inr}
+use mathlib.Core.List.{List, [], _∷_, _++_, append-nil}
+use Prim.Native.Nat.{ℕ, _≤_, _<_}
 use native.Mathlib.Omega.{arith}
 use lib.ListN.{length, take, drop, length-append, length-take, length-drop, take-append-drop}
-use lib.Seq.{drop-append-seam, drop-at, length-take-le}
+use lib.Seq.{drop-append-seam}
 use lib.Dec.{ltb, eqb}
-use borrow.Author.Tests.{ltb-true, lt-ltb, eqb-true, eq-eqb, ne-eqb}
+use borrow.Author.Tests.{ltb-true, lt-ltb, eqb-true, eq-eqb}
 use Rattle.definitions.specs.Words.{every, lexlt, lyndon}
 use Rattle.lists.specs.Bools.{and-left, and-right, and-intro, or-left, or-right, or-cases}
 use Rattle.lists.specs.Numbers.{split-le, every-at, every-all}
 use Rattle.lists.specs.Lists.{Overlap, within, across, overlap}
-use Rattle.lyndon.specs.Order.{Lt, Dif, lexlt-lt, lt-lexlt, dif-append, dif-lt, lt-cases, lt-irrefl, lt-trans, lt-prefix, lt-append}
+use Rattle.lyndon.specs.Order.{Lt, Dif, lexlt-lt, lt-lexlt, dif-append, dif-lt, lt-cases, lt-trans, lt-append}
 
 -- w is a Lyndon word
 pub record Lyndon (w : List ℕ) : Type 0 where
@@ -61,9 +61,10 @@ is-lyndon w l =
 -- one symbol alone
 pub lyndon-one : (a : ℕ) → Lyndon (a ∷ [])
 lyndon-one a =
-    record
-    { filled = omega arith
-    ; least = λ p s hp hs e. absurd (omega (arith, simp length-append at (ap length e))) }
+    record {
+      filled = omega arith;
+      least = λ p s hp hs e. absurd (omega (arith, simp length-append at (ap length e)));
+    }
 
 -- u ++ v is smaller than v
 before-right : (u v : List ℕ) → Lyndon u → Lyndon v → Lt u v → Lt (u ++ v) v
