@@ -1,5 +1,5 @@
--- Occurrences of a pattern, live cuts, and occurrences at the join of a pair rule (document 01, "Live cuts", "Finds and joins").
--- An occurrence is document 01's find, a pattern its motif. `live cut` is document 01's own term.
+-- Live cuts of a pattern, its occurrences, and those at the join of a pair rule (document 01, "Live cuts" and "Finds and joins").
+-- A pattern is document 01's motif, an occurrence its find; `live cut` is document 01's own term.
 use Prim.Native.Nat.{ℕ, suc, _+_}
 use mathlib.Core.Bool.{Bool, false, _&&_, _||_}
 use mathlib.Core.List.{List, [], _∷_, _++_, map}
@@ -9,19 +9,15 @@ use Rattle.definitions.specs.declared.Order.{Order}
 use Rattle.definitions.specs.Words.{every, below, begins, lexlt}
 use Rattle.definitions.specs.Table.{rankOf}
 
--- the places of s at which p begins, rising, each once; they may overlap
-unfoldable pub occurrences : List ℕ → List ℕ → List ℕ
-occurrences p s = below (λ i. begins p (drop i s)) (suc (length s))
-
 -- ---- live cuts
 
--- one of the two tails is a prefix of the other, or the first is smaller at their first difference
-unfoldable pub notAfter : List ℕ → List ℕ → Bool
-notAfter x y = begins x y || (begins y x || lexlt x y)
+-- the tails x and y agree as far as the shorter one goes, or x is the smaller where they first differ
+unfoldable pub notGreaterAtDifference : List ℕ → List ℕ → Bool
+notGreaterAtDifference x y = begins x y || (begins y x || lexlt x y)
 
--- the cut c is live: so it is beside every cut d from 1 on (the tail from c beside itself included)
+-- the cut c is live: its tail is so beside the tail of every cut d, from 1 on (its own tail passes too)
 unfoldable pub isLive : List ℕ → ℕ → Bool
-isLive p c = ltb 0 c && every (λ d. eqb d 0 || notAfter (drop c p) (drop d p)) (length p)
+isLive p c = ltb 0 c && every (λ d. eqb d 0 || notGreaterAtDifference (drop c p) (drop d p)) (length p)
 
 -- the live cuts of a string, from 1 to its length less 1, rising, each once
 unfoldable pub liveCuts : List ℕ → List ℕ
@@ -30,6 +26,12 @@ liveCuts p = below (isLive p) (length p)
 -- the live cuts of a pattern of samples
 unfoldable pub patternCuts : Order → List ℕ → List ℕ
 patternCuts o p = liveCuts (map (rankOf o) p)
+
+-- ---- occurrences
+
+-- the places of s at which p begins, rising, each once; they may overlap
+unfoldable pub occurrences : List ℕ → List ℕ → List ℕ
+occurrences p s = below (λ i. begins p (drop i s)) (suc (length s))
 
 -- ---- joins: u and v are the halves of a pair rule
 

@@ -2,16 +2,18 @@
 -- some of its edges as outcomes of services: by computation, under one claim.
 use Prim.Native.Nat.{ℕ}
 use mathlib.Core.Path.{_≡_, refl}
-use mathlib.Core.Bool.{Bool, true, _&&_}
+use mathlib.Core.Bool.{Bool, true, false, cond, _&&_}
 use mathlib.Core.List.{List, [], _∷_}
-use lib.ListN.{length, drop}
+use lib.ListN.{length, drop, getD, replicate}
 use lib.Dec.{eqb}
 use Rattle.definitions.specs.declared.Order.the-variants.{Unsigned}
-use Rattle.definitions.specs.Words.{every, below, least, same, begins, lexlt, lyndon, cutOf}
+use Rattle.definitions.specs.declared.Answer.{Answer}
+use Rattle.definitions.specs.declared.Answer.the-variants.{Done, Refused}
+use Rattle.definitions.specs.Words.{every, below, least, placed, same, begins, lexlt, lyndon, cutOf}
 use Rattle.definitions.specs.Grammar.{leftOf, rightOf, word, split, lyndonTree, indexOf, meet, visit, order, ruleOf, rulesOf}
 use Rattle.definitions.specs.Table.{rankOf, byteOf, numberOfRank, rankOfNumber, marked, wordOf, kindOf, numberOf, ruleWords, words, tableOf, badFirst, badSecond, badWord, stringOf, strings, ruleString, spelled, textOf, chairOf, isDrive, isChair, isTable}
-use Rattle.definitions.specs.Occurrences.{occurrences, notAfter, isLive, liveCuts, patternCuts}
-use Rattle.definitions.specs.Services.{Service, firstMet, outcome, tableChecks, patternChecks, checkService, extractService, countService, locateService, cutsService}
+use Rattle.definitions.specs.Occurrences.{occurrences, notGreaterAtDifference, isLive, liveCuts, patternCuts}
+use Rattle.definitions.specs.Services.{Outcome, Service, firstMet, outcome, outcomeOf, resultAfter, cleared, workAfter, tableChecks, patternChecks, buildService, checkService, readService, extractService, countService, locateService, cutsService}
 
 abbrev pub a : ℕ
 a = 97
@@ -48,8 +50,18 @@ pub data Sample : Type 0 where
   cuts : List ℕ → List ℕ → Sample
   -- the table of the drive and chair number, word by word
   table : List ℕ → ℕ → List ℕ → Sample
-  -- the service ends with this number, place and count
-  ends : Service → ℕ → ℕ → ℕ → Sample
+  -- the service ends with this number, place, count and chair number
+  ends : Service → ℕ → ℕ → ℕ → ℕ → Sample
+  -- the result slice, which held the first list, holds the second afterwards
+  leaves : Service → List ℕ → List ℕ → Sample
+  -- whether the work slice is cleared, its first 16,384 words alone
+  clears : Service → Bool → Sample
+  -- the answer stands for this number, place and count
+  answers : Answer → ℕ → ℕ → ℕ → Sample
+
+-- an outcome's parts
+unfoldable pub parts : Outcome → List ℕ
+parts r = r .number ∷ r .place ∷ r .count ∷ r .chair ∷ []
 
 unfoldable pub holds : Sample → Bool
 holds (rules text n) =
@@ -60,8 +72,12 @@ holds (rules text n) =
 holds (finds text p places) = same (occurrences p text) places
 holds (cuts p places) = same (patternCuts Unsigned p) places
 holds (table text chair t) = same (tableOf Unsigned text chair) t
-holds (ends s number place count) =
-    let r = outcome s in eqb (r .number) number && (eqb (r .place) place && eqb (r .count) count)
+holds (ends s number place count chair) = same (parts (outcome s)) (number ∷ place ∷ count ∷ chair ∷ [])
+holds (leaves s before after) = same (resultAfter s before) after
+holds (clears s b) =
+    let w = workAfter s (replicate 16385 7) in
+    eqb (length w) 16385 && (eqb (getD w 0 7) (cond b 0 7) && (eqb (getD w 16383 7) (cond b 0 7) && eqb (getD w 16384 7) 7))
+holds (answers r number place count) = same (parts (outcomeOf r)) (number ∷ place ∷ count ∷ 0 ∷ [])
 
 unfoldable pub all : List Sample → Bool
 all [] = true
@@ -91,21 +107,37 @@ samples =
     ∷ cuts (a ∷ a ∷ a ∷ []) (1 ∷ 2 ∷ [])
     ∷ cuts (a ∷ []) []
     ∷ table abab 40 ofAbab
-    ∷ ends (checkService Unsigned ofAbab 16384) 0 0 6
-    ∷ ends (checkService Unsigned ofAbab 16383) 4 0 0
-    ∷ ends (checkService Unsigned (drop 1 ofAbab) 16384) 5 0 0
-    ∷ ends (checkService Unsigned (drop 2 ofAbab) 16384) 6 5 0
-    ∷ ends (checkService Unsigned otherOrder 16384) 7 0 0
-    ∷ ends (checkService Unsigned twoRules 16384) 7 0 0
-    ∷ ends (extractService Unsigned ofAbab 4 0 16384 0) 0 0 0
-    ∷ ends (extractService Unsigned ofAbab 4 1 16384 0) 8 0 0
-    ∷ ends (countService Unsigned ofAbab (b ∷ a ∷ []) 16384) 0 0 1
-    ∷ ends (locateService Unsigned (tableOf Unsigned (a ∷ a ∷ a ∷ a ∷ []) 0) (a ∷ a ∷ []) 16384 2) 9 3 0
-    ∷ ends (locateService Unsigned [] [] 0 0) 2 0 0
-    ∷ ends (cutsService Unsigned (a ∷ a ∷ b ∷ a ∷ []) 1) 9 2 0
+    ∷ ends (buildService Unsigned abab 40 16384 12) 0 0 12 0
+    ∷ ends (buildService Unsigned abab 40 16384 11) 9 12 0 0
+    ∷ ends (checkService Unsigned ofAbab 16384) 0 0 6 0
+    ∷ ends (checkService Unsigned [] 16383) 4 0 0 0
+    ∷ ends (checkService Unsigned (drop 1 ofAbab) 16384) 5 0 0 0
+    ∷ ends (checkService Unsigned (drop 2 ofAbab) 16384) 6 5 0 0
+    ∷ ends (checkService Unsigned otherOrder 16384) 7 0 0 0
+    ∷ ends (checkService Unsigned twoRules 16384) 7 0 0 0
+    ∷ ends (readService Unsigned ofAbab 16384 4) 0 0 4 40
+    ∷ ends (readService Unsigned ofAbab 16384 3) 9 4 0 0
+    ∷ ends (extractService Unsigned ofAbab 4 0 16384 0) 0 0 0 0
+    ∷ ends (extractService Unsigned ofAbab 4 1 16384 0) 8 0 0 0
+    ∷ ends (countService Unsigned ofAbab (b ∷ a ∷ []) 16384) 0 0 1 0
+    ∷ ends (countService Unsigned [] [] 0) 2 0 0 0
+    ∷ ends (locateService Unsigned (tableOf Unsigned (a ∷ a ∷ a ∷ a ∷ []) 0) (a ∷ a ∷ []) 16384 2) 9 3 0 0
+    ∷ ends (cutsService Unsigned (a ∷ a ∷ b ∷ a ∷ []) 1) 9 2 0 0
+    ∷ leaves (extractService Unsigned ofAbab 1 2 16384 3) (7 ∷ 7 ∷ 7 ∷ []) (b ∷ a ∷ 7 ∷ [])
+    ∷ leaves (locateService Unsigned ofAbab (a ∷ b ∷ []) 16384 1) (7 ∷ []) (7 ∷ [])
+    ∷ clears (checkService Unsigned ofAbab 16385) true
+    ∷ clears (checkService Unsigned twoRules 16385) true
+    ∷ clears (checkService Unsigned (drop 2 ofAbab) 16385) false
+    ∷ clears (checkService Unsigned [] 16385) false
+    ∷ clears (checkService Unsigned ofAbab 16383) false
+    ∷ clears (countService Unsigned ofAbab [] 16385) false
+    ∷ clears (extractService Unsigned ofAbab 4 1 16385 0) true
+    ∷ clears (buildService Unsigned abab 40 16385 11) true
+    ∷ answers (Done 5) 0 0 5
+    ∷ answers (Refused 6 5) 6 5 0
     ∷ []
 
 -- every sample holds
 pub samples-hold : all samples ≡ true
-unfolding holds all samples every below least same begins lexlt lyndon cutOf leftOf rightOf word split lyndonTree indexOf meet visit order ruleOf rulesOf rankOf byteOf numberOfRank rankOfNumber marked wordOf kindOf numberOf ruleWords words tableOf badFirst badSecond badWord stringOf strings ruleString spelled textOf chairOf isDrive isChair isTable occurrences notAfter isLive liveCuts patternCuts firstMet outcome tableChecks patternChecks checkService extractService countService locateService cutsService
+unfolding holds all samples parts every below least placed same begins lexlt lyndon cutOf leftOf rightOf word split lyndonTree indexOf meet visit order ruleOf rulesOf rankOf byteOf numberOfRank rankOfNumber marked wordOf kindOf numberOf ruleWords words tableOf badFirst badSecond badWord stringOf strings ruleString spelled textOf chairOf isDrive isChair isTable occurrences notGreaterAtDifference isLive liveCuts patternCuts firstMet outcome outcomeOf resultAfter cleared workAfter tableChecks patternChecks buildService checkService readService extractService countService locateService cutsService
 samples-hold = refl

@@ -44,6 +44,7 @@ searchOutcome s = outcomeOf (s .answer)
 
 -- ---- checks
 
+-- a check: whether it is met, its number and place, and whether the work slice is cleared when it decides
 pub record Check : Type 0 where
   pub met : Bool
   pub number : ℕ
@@ -64,10 +65,11 @@ unfoldable pub firstMet {ℓ} : {A : Type ℓ} → List Check → (Check → A) 
 firstMet [] refusal success = success
 firstMet (c ∷ checks) refusal success = cond (c .met) (refusal c) (firstMet checks refusal success)
 
+-- what the service answers
 unfoldable pub outcome : Service → Outcome
 outcome s = firstMet (s .checks) (λ c. refused (c .number) (c .place)) (s .success)
 
--- a refusal leaves the result slice as it is; success writes at its front
+-- the result slice afterwards: a refusal leaves it as it is, success writes at its front
 unfoldable pub resultAfter : Service → List ℕ → List ℕ
 resultAfter s result = firstMet (s .checks) (λ c. result) (placed (s .written) result)
 
@@ -75,10 +77,11 @@ resultAfter s result = firstMet (s .checks) (λ c. result) (placed (s .written) 
 unfoldable pub cleared : List ℕ → List ℕ
 cleared work = placed (replicate 16384 0) work
 
+-- the work slice afterwards: as it was or cleared, by the check that is met; cleared after success
 unfoldable pub workAfter : Service → List ℕ → List ℕ
 workAfter s work = firstMet (s .checks) (λ c. cond (c .clears) (cleared work) work) (cleared work)
 
--- ---- the checks, by number
+-- ---- the checks: when met, number, place, whether the work slice is cleared
 
 abbrev pub textTooLong : List ℕ → Check
 textTooLong text = check (ltb 2047 (length text)) 1 0 false

@@ -37,7 +37,7 @@ marked o text = 0 ∷ map (rankOf o) text
 
 -- ---- words
 
--- a word's top two bits are its kind; the other 30 bits are its number
+-- a word: two bits of kind above 30 bits of number
 unfoldable pub wordOf : ℕ → ℕ → ℕ
 wordOf kind number = kind * 2 ^ 30 + number
 
@@ -63,12 +63,12 @@ tableOf o text chair = words o chair (rulesOf (marked o text))
 
 -- ---- bad words
 
--- an even word x, the first of rule r: neither kind 0 with a number up to 256 nor kind 1 with a number below r
+-- x is bad as the first word of rule r: it is no symbol's word (kind 0, at most 256), and no left half's (kind 1, an earlier rule)
 unfoldable pub badFirst : ℕ → ℕ → Bool
 badFirst r x = not ((eqb (kindOf x) 0 && leb (numberOf x) 256) || (eqb (kindOf x) 1 && ltb (numberOf x) r))
 
--- an odd word y, the second of rule r, after x: after kind 1 it isn't kind 2 with a number below r; after kind 0 it isn't
--- kind 3, or its number is above 65,535 in word 1 or above 0 elsewhere
+-- y is bad as the second word of rule r, after x: behind a left half it is no right half (kind 2, an earlier rule); behind a symbol it
+-- is not of kind 3, or holds more than a chair number in rule 0, more than 0 in any other
 unfoldable pub badSecond : ℕ → ℕ → ℕ → Bool
 badSecond r x y =
     (eqb (kindOf x) 1 && not (eqb (kindOf y) 2 && ltb (numberOf y) r))
@@ -96,7 +96,7 @@ strings o t (suc n) =
 unfoldable pub ruleString : Order → List ℕ → ℕ → List ℕ
 ruleString o t r = getD (strings o t (length t / 2)) r []
 
--- rule r is a pair rule; its halves are the strings of u and v, and its join lies between them
+-- whether rule r is a pair rule, and its two halves; the join is between them
 unfoldable pub isPair : List ℕ → ℕ → Bool
 isPair t r = ltb r (length t / 2) && eqb (kindOf (getD t (2 * r) 0)) 1
 
@@ -121,6 +121,7 @@ chairOf t = numberOf (getD t 1 0)
 unfoldable pub isDrive : List ℕ → Bool
 isDrive text = leb (length text) 2047 && every (λ i. ltb (getD text i 0) 256) (length text)
 
+-- 0 to 65,535
 unfoldable pub isChair : ℕ → Bool
 isChair c = leb c 65535
 

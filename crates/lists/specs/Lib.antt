@@ -1,4 +1,5 @@
 pub mod Bools
 pub mod Numbers
 pub mod Lists
+pub mod Members
 pub mod Strings

@@ -68,6 +68,12 @@ rising-one-more (k ∷ l) n r h = (
   rising-one-more l n (r .1) (λ j i. h j (there i)),
 )
 
+-- a rising list no two entries of which may stand has at most one
+pub rising-most : (l : List ℕ) → Rising l → ((i j : ℕ) → In i l → In j l → i < j → ⊥) → length l ≤ 1
+rising-most [] r h = omega arith
+rising-most (k ∷ []) r h = omega arith
+rising-most (k ∷ j ∷ l) r h = absurd (h k j (here refl) (there (here refl)) (r .0 j (here refl)))
+
 pub below-rising : (f : ℕ → Bool) (n : ℕ) → Rising (below f n)
 unfolding below
 below-rising f zero = tt

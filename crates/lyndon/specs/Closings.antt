@@ -6,11 +6,12 @@ use mathlib.Core.List.{List, [], _∷_, _++_, append-assoc, append-nil}
 use Prim.Native.Nat.{ℕ, zero, suc, _+_, _<_}
 use native.Mathlib.Omega.{arith}
 use lib.ListN.{length, length-append}
+use Rattle.lists.specs.Numbers.{split-le}
 use Rattle.definitions.specs.Grammar.{Tree, leaf, node, word, lyndonTree, Rule, symbol, pair, rulesOf}
 use Rattle.lyndon.specs.Words.{Lyndon}
 use Rattle.lyndon.specs.Trees.{word-filled, tree-of}
 use Rattle.lyndon.specs.Forest.{forest, forest-one, spells}
-use Rattle.lyndon.specs.Rules.{find, intern, number, number-rules}
+use Rattle.lyndon.specs.Rules.{find, intern, intern-old, intern-new, number, number-rules}
 
 -- the joins that close behind each symbol of a tree, and k more behind its last
 unfoldable pub closings : ℕ → Tree → List ℕ
@@ -22,14 +23,14 @@ unfoldable pub closingsOf : List Tree → List ℕ
 closingsOf [] = []
 closingsOf (t ∷ f) = closings 0 t ++ closingsOf f
 
-unfoldable pub total : List ℕ → ℕ
-total [] = 0
-total (n ∷ l) = n + total l
+unfoldable pub sum : List ℕ → ℕ
+sum [] = 0
+sum (n ∷ l) = n + sum l
 
-pub total-append : (l m : List ℕ) → total (l ++ m) ≡ total l + total m
-unfolding total
-total-append [] m = omega arith
-total-append (n ∷ l) m = omega (arith, total-append l m)
+pub sum-append : (l m : List ℕ) → sum (l ++ m) ≡ sum l + sum m
+unfolding sum
+sum-append [] m = omega arith
+sum-append (n ∷ l) m = omega (arith, sum-append l m)
 
 pub closings-length : (k : ℕ) (t : Tree) → length (closings k t) ≡ length (word t)
 unfolding closings word
@@ -37,22 +38,22 @@ closings-length k (leaf a) = refl
 closings-length k (node l r) = simp length-append (ap₂ {C = ℕ} (λ m n. m + n) (closings-length 0 l) (closings-length (suc k) r))
 
 -- a tree has one join less than symbols
-closings-total : (k : ℕ) (t : Tree) → suc (total (closings k t)) ≡ length (word t) + k
-unfolding closings word total
-closings-total k (leaf a) = omega arith
-closings-total k (node l r) =
-    let il = closings-total 0 l in
-    let ir = closings-total (suc k) r in
-    simp (length-append, total-append) (omega arith)
+closings-sum : (k : ℕ) (t : Tree) → suc (sum (closings k t)) ≡ length (word t) + k
+unfolding closings word sum
+closings-sum k (leaf a) = omega arith
+closings-sum k (node l r) =
+    let il = closings-sum 0 l in
+    let ir = closings-sum (suc k) r in
+    simp (length-append, sum-append) (omega arith)
 
 -- closings and trees of a forest are together as many as its symbols
-pub forest-total : (f : List Tree) → total (closingsOf f) + length f ≡ length (spells f)
-unfolding closingsOf total spells
-forest-total [] = omega arith
-forest-total (t ∷ f) =
-    let ih = forest-total f in
-    let it = closings-total 0 t in
-    simp (length-append, total-append) (omega arith)
+pub forest-sum : (f : List Tree) → sum (closingsOf f) + length f ≡ length (spells f)
+unfolding closingsOf sum spells
+forest-sum [] = omega arith
+forest-sum (t ∷ f) =
+    let ih = forest-sum f in
+    let it = closings-sum 0 t in
+    simp (length-append, sum-append) (omega arith)
 
 pub closingsOf-length : (f : List Tree) → length (closingsOf f) ≡ length (spells f)
 unfolding closingsOf spells
@@ -112,6 +113,38 @@ unfoldable pub run : State → List ℕ → List ℕ → State
 run s [] c = s
 run s (a ∷ w) [] = s
 run s (a ∷ w) (k ∷ c) = run (joins k (push (s .rules) (symbol a) (s .stack))) w c
+
+-- the rules only grow
+intern-extends : (K : List Rule) (x : Rule) → (M : List Rule) × (intern K x ≡ K ++ M)
+intern-extends K x = split-le (length K) (find x K)
+    (λ h. (x ∷ [], intern-new K x h))
+    (λ h. ([], intern-old K x h ∙ sym (append-nil K)))
+
+join-extends : (K : List Rule) (stack : List ℕ) → (M : List Rule) × (joinTop K stack .rules ≡ K ++ M)
+unfolding joinTop push
+join-extends K [] = ([], sym (append-nil K))
+join-extends K (j ∷ []) = ([], sym (append-nil K))
+join-extends K (j ∷ i ∷ stack) = intern-extends K (pair i j)
+
+extend : (K L M : List Rule) → (A : List Rule) × (L ≡ K ++ A) → (B : List Rule) × (M ≡ L ++ B) → (C : List Rule) × (M ≡ K ++ C)
+extend K L M (A, e) (B, f) = (A ++ B, f ∙ ap (λ (X : List Rule). X ++ B) e ∙ append-assoc K A B)
+
+pub joins-extends : (k : ℕ) (s : State) → (M : List Rule) × (joins k s .rules ≡ s .rules ++ M)
+unfolding joins
+joins-extends zero s = ([], sym (append-nil (s .rules)))
+joins-extends (suc k) s =
+    extend (s .rules) (joinTop (s .rules) (s .stack) .rules) (joins k (joinTop (s .rules) (s .stack)) .rules)
+    (join-extends (s .rules) (s .stack)) (joins-extends k (joinTop (s .rules) (s .stack)))
+
+pub run-extends : (s : State) (w c : List ℕ) → (M : List Rule) × (run s w c .rules ≡ s .rules ++ M)
+unfolding run push
+run-extends s [] c = ([], sym (append-nil (s .rules)))
+run-extends s (a ∷ w) [] = ([], sym (append-nil (s .rules)))
+run-extends s (a ∷ w) (k ∷ c) =
+    let t = push (s .rules) (symbol a) (s .stack) in
+    extend (s .rules) (joins k t .rules) (run (joins k t) w c .rules)
+    (extend (s .rules) (t .rules) (joins k t .rules) (intern-extends (s .rules) (symbol a)) (joins-extends k t))
+    (run-extends (joins k t) w c)
 
 -- the state once a tree is numbered and its root's rule is pushed
 unfoldable pub pushed : State → Tree → State

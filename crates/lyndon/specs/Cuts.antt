@@ -12,59 +12,59 @@ use lib.Seq.{drop-append-seam, length-take-le}
 use lib.Dec.{ltb, eqb}
 use borrow.Author.Tests.{ltb-true, lt-ltb, eqb-true, eq-eqb}
 use Rattle.definitions.specs.Words.{every, begins, lexlt}
-use Rattle.definitions.specs.Occurrences.{notAfter, isLive, liveCuts}
+use Rattle.definitions.specs.Occurrences.{notGreaterAtDifference, isLive, liveCuts}
 use Rattle.lists.specs.Bools.{and-left, and-right, and-intro, or-left, or-right, or-cases}
 use Rattle.lists.specs.Numbers.{split-le, split-lt, every-at, every-all, Rising, below-in, below-lt, below-rising}
 use Rattle.lists.specs.Lists.{Overlap, within, across, overlap}
 use Rattle.lists.specs.Strings.{begins-rest, rest-begins}
-use Rattle.lyndon.specs.Order.{Lt, Dif, Compare, equal, prefix, extends, smaller, greater, compared, lexlt-lt, lt-lexlt, dif-append, dif-lt, lt-cases, lt-irrefl, lt-asym, lt-append}
+use Rattle.lyndon.specs.Lexical.{Lt, Dif, Compare, equal, prefix, extends, smaller, greater, compared, lexlt-lt, lt-lexlt, dif-append, dif-lt, lt-cases, lt-irrefl, lt-asym, lt-append}
 use Rattle.lyndon.specs.Factorization.{Std}
 
 -- ---- the wording of the definition
 
 -- one of the two is a prefix of the other, or x is smaller at their first difference
-abbrev pub NotAfter : List ℕ → List ℕ → Type 0
-NotAfter x y = ((r : List ℕ) × (y ≡ x ++ r)) ⊎ (((r : List ℕ) × (x ≡ y ++ r)) ⊎ Dif x y)
+abbrev pub NotGreaterAtDifference : List ℕ → List ℕ → Type 0
+NotGreaterAtDifference x y = ((r : List ℕ) × (y ≡ x ++ r)) ⊎ (((r : List ℕ) × (x ≡ y ++ r)) ⊎ Dif x y)
 
-not-after-is : (x y : List ℕ) → notAfter x y ≡ true → NotAfter x y
-unfolding notAfter
-not-after-is x y e = first (or-cases (begins x y) (begins y x || lexlt x y) e)
+not-greater-is : (x y : List ℕ) → notGreaterAtDifference x y ≡ true → NotGreaterAtDifference x y
+unfolding notGreaterAtDifference
+not-greater-is x y e = first (or-cases (begins x y) (begins y x || lexlt x y) e)
   where
-    third : Dif x y ⊎ ((r : List ℕ) × (0 < length r) × (y ≡ x ++ r)) → NotAfter x y
+    third : Dif x y ⊎ ((r : List ℕ) × (0 < length r) × (y ≡ x ++ r)) → NotGreaterAtDifference x y
     third (inl d) = inr (inr d)
     third (inr (r, h, q)) = inl (r, q)
 
-    second : (begins y x ≡ true) ⊎ (lexlt x y ≡ true) → NotAfter x y
+    second : (begins y x ≡ true) ⊎ (lexlt x y ≡ true) → NotGreaterAtDifference x y
     second (inl q) = inr (inl (begins-rest y x q))
     second (inr q) = third (lt-cases x y (lexlt-lt x y q))
 
-    first : (begins x y ≡ true) ⊎ (begins y x || lexlt x y ≡ true) → NotAfter x y
+    first : (begins x y ≡ true) ⊎ (begins y x || lexlt x y ≡ true) → NotGreaterAtDifference x y
     first (inl q) = inl (begins-rest x y q)
     first (inr q) = second (or-cases (begins y x) (lexlt x y) q)
 
-is-not-after : (x y : List ℕ) → NotAfter x y → notAfter x y ≡ true
-unfolding notAfter
-is-not-after x y (inl (r, e)) = or-left (begins x y) (begins y x || lexlt x y) (rest-begins x y r e)
-is-not-after x y (inr (inl (r, e))) =
+is-not-greater : (x y : List ℕ) → NotGreaterAtDifference x y → notGreaterAtDifference x y ≡ true
+unfolding notGreaterAtDifference
+is-not-greater x y (inl (r, e)) = or-left (begins x y) (begins y x || lexlt x y) (rest-begins x y r e)
+is-not-greater x y (inr (inl (r, e))) =
     or-right (begins x y) (begins y x || lexlt x y) (or-left (begins y x) (lexlt x y) (rest-begins y x r e))
-is-not-after x y (inr (inr d)) =
+is-not-greater x y (inr (inr d)) =
     or-right (begins x y) (begins y x || lexlt x y) (or-right (begins y x) (lexlt x y) (lt-lexlt x y (dif-lt x y d)))
 
 -- c is a cut, and beside every other cut d its tail is not after d's
 abbrev pub Live : List ℕ → ℕ → Type 0
-Live p c = (0 < c) × (c < length p) × ((d : ℕ) → 0 < d → d < length p → (d ≡ c → ⊥) → NotAfter (drop c p) (drop d p))
+Live p c = (0 < c) × (c < length p) × ((d : ℕ) → 0 < d → d < length p → (d ≡ c → ⊥) → NotGreaterAtDifference (drop c p) (drop d p))
 
 live-is : (p : List ℕ) (c : ℕ) → In c (liveCuts p) → Live p c
 unfolding liveCuts isLive
 live-is p c m =
     let (h, e) = below-lt (isLive p) (length p) c m in
-    let test : ℕ → Bool = λ d. eqb d 0 || notAfter (drop c p) (drop d p) in (
+    let test : ℕ → Bool = λ d. eqb d 0 || notGreaterAtDifference (drop c p) (drop d p) in (
       ltb-true 0 c (and-left (ltb 0 c) (every test (length p)) e),
       h,
       λ d k l n. ⊎-elim
           (λ q. absurd (omega (arith, eqb-true d 0 q)))
-          (λ q. not-after-is (drop c p) (drop d p) q)
-          (or-cases (eqb d 0) (notAfter (drop c p) (drop d p)) (every-at test (length p) (and-right (ltb 0 c) (every test (length p)) e) d l)),
+          (λ q. not-greater-is (drop c p) (drop d p) q)
+          (or-cases (eqb d 0) (notGreaterAtDifference (drop c p) (drop d p)) (every-at test (length p) (and-right (ltb 0 c) (every test (length p)) e) d l)),
     )
 
 is-live : (p : List ℕ) (c : ℕ) → Live p c → In c (liveCuts p)
@@ -74,14 +74,14 @@ is-live p c (z, h, l) =
     (and-intro (ltb 0 c) (every test (length p)) (lt-ltb 0 c z) (every-all test (length p) at))
   where
     test : ℕ → Bool
-    test d = eqb d 0 || notAfter (drop c p) (drop d p)
+    test d = eqb d 0 || notGreaterAtDifference (drop c p) (drop d p)
 
     at : (d : ℕ) → d < length p → test d ≡ true
     at d k = split-le d 0
-        (λ n. or-left (eqb d 0) (notAfter (drop c p) (drop d p)) (eq-eqb d 0 (omega arith)))
-        (λ n. or-right (eqb d 0) (notAfter (drop c p) (drop d p)) (is-not-after (drop c p) (drop d p) (beside n)))
+        (λ n. or-left (eqb d 0) (notGreaterAtDifference (drop c p) (drop d p)) (eq-eqb d 0 (omega arith)))
+        (λ n. or-right (eqb d 0) (notGreaterAtDifference (drop c p) (drop d p)) (is-not-greater (drop c p) (drop d p) (beside n)))
       where
-        beside : 0 < d → NotAfter (drop c p) (drop d p)
+        beside : 0 < d → NotGreaterAtDifference (drop c p) (drop d p)
         beside n = split-lt d c
             (λ m. l d n k (λ e. omega arith))
             (λ e. inl ([], ap (λ (i : ℕ). drop i p) e ∙ sym (append-nil (drop c p))))
@@ -162,8 +162,8 @@ straddle-live p u v i std s = (s .front-filled, omega (arith, size, s .rest-fill
     tail : drop (length (s .front)) p ≡ s .rest
     tail = ap (drop (length (s .front))) (s .cut) ∙ drop-append-seam (s .front) (s .rest)
 
-    beside : (d : ℕ) → 0 < d → d < length p → (d ≡ length (s .front) → ⊥) → NotAfter (drop (length (s .front)) p) (drop d p)
-    beside d hd k n = subst (λ (x : List ℕ). NotAfter x y) (sym tail) (go (compared (s .rest) y))
+    beside : (d : ℕ) → 0 < d → d < length p → (d ≡ length (s .front) → ⊥) → NotGreaterAtDifference (drop (length (s .front)) p) (drop d p)
+    beside d hd k n = subst (λ (x : List ℕ). NotGreaterAtDifference x y) (sym tail) (go (compared (s .rest) y))
       where
         y : List ℕ
         y = drop d p
@@ -183,7 +183,7 @@ straddle-live p u v i std s = (s .front-filled, omega (arith, size, s .rest-fill
             (λ m. lt-asym v (y ++ s .behind) m l)
             (std .least (s .before ++ take d p) (y ++ s .behind) (simp (length-append, length-take) (omega arith)) (simp (length-append, length-drop) (omega arith)) suffix)
 
-        go : Compare (s .rest) y → NotAfter (s .rest) y
+        go : Compare (s .rest) y → NotGreaterAtDifference (s .rest) y
         go (equal e) = inl ([], sym e ∙ sym (append-nil (s .rest)))
         go (prefix r h e) = inl (r, e)
         go (extends r h e) = inr (inl (r, e))

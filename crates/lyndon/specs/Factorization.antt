@@ -16,8 +16,8 @@ use Rattle.definitions.specs.Grammar.{leftOf, rightOf}
 use Rattle.lists.specs.Bools.{and-left, and-right, and-intro, not-so}
 use Rattle.lists.specs.Numbers.{split-le, least-is}
 use Rattle.lists.specs.Lists.{empty, Overlap, within, across, overlap, split-same-left, split-same-right}
-use Rattle.lyndon.specs.Order.{Lt, Dif, Compare, equal, prefix, extends, smaller, greater, compared, dif-append, dif-lt, lt-cases, lt-trans, lt-asym, lt-prefix, lt-append, lt-cancel, total}
-use Rattle.lyndon.specs.Words.{Lyndon, lyndon-is, is-lyndon}
+use Rattle.lyndon.specs.Lexical.{Lt, Dif, Compare, equal, prefix, extends, smaller, greater, compared, dif-append, dif-lt, lt-cases, lt-trans, lt-asym, lt-prefix, lt-append, lt-cancel, total}
+use Rattle.lyndon.specs.Words.{Lyndon, lyndon-is, is-lyndon, lt-joined}
 
 -- v is the smallest proper suffix of u ++ v
 pub record Std (u v : List ℕ) : Type 0 where
@@ -196,7 +196,7 @@ std-one a v l = record { left = omega arith; right = l .filled; least = least }
 pub std-join : (x y v : List ℕ) → Std x y → Lyndon v → (Lt y v → ⊥) → Std (x ++ y) v
 std-join x y v d l no-less = record { left = simp length-append (omega (arith, d .left)); right = l .filled; least = λ p s hp hs e. least p s hp hs (overlap p s (x ++ y) v (sym e)) }
   where
-    -- v before every s that is not before y
+    -- v is before q ++ v for every q that is not before y
     extend : (q : List ℕ) → (q ≡ y) ⊎ Lt y q → Lt v (q ++ v)
     extend q h = go (compared v q)
       where
@@ -222,11 +222,5 @@ std-join x y v d l no-less = record { left = simp length-append (omega (arith, d
 pub std-order : (x y v : List ℕ) → 0 < length x → 0 < length y → Std (x ++ y) v → Lt y v → ⊥
 std-order x y v hx hy d h = ⊎-elim
     (λ e. omega (arith, simp length-append at (ap length e)))
-    (λ l. lt-asym v (y ++ v) l (below (lt-cases y v h)))
+    (λ l. lt-asym v (y ++ v) l (lt-joined y v hy (std-lyndon (x ++ y) v d) h))
     (d .least x (y ++ v) hx (simp length-append (omega arith)) (append-assoc x y v))
-  where
-    below : Dif y v ⊎ ((r : List ℕ) × (0 < length r) × (v ≡ y ++ r)) → Lt (y ++ v) v
-    below (inl z) = subst (λ (t : List ℕ). Lt (y ++ v) t) (append-nil v) (dif-lt (y ++ v) (v ++ []) (dif-append y v v [] z))
-    below (inr z) =
-        subst (λ (t : List ℕ). Lt (y ++ v) t) (sym (z .2))
-        (lt-append y v (z .0) (std-lyndon (x ++ y) v d .least y (z .0) hy (z .1) (z .2)))

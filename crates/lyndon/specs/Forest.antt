@@ -1,6 +1,6 @@
 -- The forest of a string, from right to left: a leaf, and while it is smaller than the next tree, their join.
 -- Its trees are Lyndon trees whose words do not rise (`forest-good`); the first word is the longest Lyndon word that begins the
--- string (`longest-is`, `longest-most`); what follows the first tree is the forest of what follows its word (`forest-rest`); and the forest
+-- string (`longest-is`, `longest-fits`, `longest-most`); what follows the first tree is the forest of what follows its word (`forest-rest`); and the forest
 -- of a Lyndon word is its Lyndon tree alone (`forest-one`).
 use mathlib.Core.Path.{_≡_, refl, sym, _∙_, ap, subst}
 use mathlib.Core.Bool.{Bool, true, false}
@@ -14,7 +14,7 @@ use Rattle.definitions.specs.Words.{lexlt}
 use Rattle.definitions.specs.Grammar.{Tree, leaf, node, word, lyndonTree}
 use Rattle.lists.specs.Numbers.{split-le}
 use Rattle.lists.specs.Lists.{empty, Overlap, within, across, overlap}
-use Rattle.lyndon.specs.Order.{Lt, lexlt-lt, lexlt-not, lt-trans, lt-prefix, not-lt}
+use Rattle.lyndon.specs.Lexical.{Lt, lexlt-lt, lexlt-not, lt-trans, lt-prefix, not-lt}
 use Rattle.lyndon.specs.Words.{Lyndon}
 use Rattle.lyndon.specs.Factorization.{std-one, std-join}
 use Rattle.lyndon.specs.Trees.{LyndonTree, word-filled, tree-lyndon, tree-unique}
@@ -149,7 +149,7 @@ firstLength (t ∷ f) = length (word t)
 unfoldable pub longest : List ℕ → ℕ
 longest s = firstLength (forest s)
 
--- it is one, and no longer prefix of s is
+-- so many symbols of s are one, s has so many, and no longer prefix of s is one
 pub longest-is : (s : List ℕ) → 0 < length s → Lyndon (take (longest s) s)
 unfolding longest firstLength spells
 longest-is s h = go (forest s) (forest-spells s) (forest-good s)
@@ -157,6 +157,14 @@ longest-is s h = go (forest s) (forest-spells s) (forest-good s)
     go : (f : List Tree) → spells f ≡ s → Good f → Lyndon (take (firstLength f) s)
     go [] e g = absurd (omega (arith, ap length e))
     go (t ∷ f) e g = subst (λ (x : List ℕ). Lyndon (take (length (word t)) x)) e (rw take-append-seam (tree-lyndon t (g .0)))
+
+pub longest-fits : (s : List ℕ) → longest s ≤ length s
+unfolding longest firstLength spells
+longest-fits s = go (forest s) (forest-spells s)
+  where
+    go : (f : List Tree) → spells f ≡ s → firstLength f ≤ length s
+    go [] e = omega arith
+    go (t ∷ f) e = omega (arith, simp length-append at (ap length e))
 
 pub longest-most : (s p q : List ℕ) → s ≡ p ++ q → Lyndon p → length p ≤ longest s
 unfolding longest firstLength spells

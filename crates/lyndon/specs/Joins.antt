@@ -1,5 +1,5 @@
 -- Occurrences at a join: those in u ++ v are those in u, those that straddle the join, and those in v moved on (`occurrences-join`);
--- under a standard factorization the straddling ones are exactly those cut at a live cut (`straddling-cut`).
+-- under a standard factorization the straddling ones are exactly those cut at a live cut (`straddling-cut`, `live-suffice`), at most one (`straddling-most`).
 use mathlib.Core.Path.{_≡_, refl, sym, _∙_, ap, ap₂}
 use mathlib.Core.Bool.{Bool, true, false, _&&_, false≢true}
 use mathlib.Core.Logic.{_⊎_, inl, inr, ⊎-elim}
@@ -7,32 +7,16 @@ use mathlib.Core.List.{List, [], _∷_, _++_, map, append-assoc, List·Memᴰ as
 use Prim.Native.Nat.{ℕ, suc, _+_, _-_, _≤_, _<_}
 use native.Mathlib.Omega.{arith}
 use lib.ListN.{length, drop, length-append, length-drop}
-use lib.Seq.{drop-append-add, drop-append-le}
+use lib.Seq.{drop-append-add, drop-append-le, drop-append-seam}
 use lib.Dec.{ltb, eqb}
 use borrow.Author.Tests.{ltb-true, lt-ltb, eqb-true, eq-eqb}
 use Rattle.definitions.specs.Words.{below, begins}
 use Rattle.definitions.specs.Occurrences.{occurrences, liveCuts, straddles, straddling, cutIn, cutAt}
 use Rattle.lists.specs.Bools.{bool-ext, not-so, and-left, and-right, and-intro, and-same, or-left, or-right, or-cases}
-use Rattle.lists.specs.Numbers.{below-ext, below-stop, below-append, below-split}
-use Rattle.lists.specs.Strings.{begins-rest}
+use Rattle.lists.specs.Numbers.{Rising, rising-most, below-in, below-lt, below-rising, below-ext, below-stop, below-append, below-split}
+use Rattle.lists.specs.Strings.{begins-rest, rest-begins}
 use Rattle.lyndon.specs.Factorization.{Std}
-use Rattle.lyndon.specs.Cuts.{Live, live-cut, Straddle, straddle-view, straddle-live}
-
--- ---- the cuts that a search tries
-
--- the cuts that are tried at a join: the live cuts
-unfoldable pub triedCuts : List ℕ → List ℕ
-triedCuts p = liveCuts p
-
--- each is a live cut
-pub tried-live : (p : List ℕ) (c : ℕ) → In c (triedCuts p) → Live p c
-unfolding triedCuts
-tried-live p c m = live-cut p c .0 m
-
--- every straddling occurrence is cut at one
-pub straddle-tried : (p u v : List ℕ) (i : ℕ) → Std u v → (s : Straddle p u v i) → In (length (s .front)) (triedCuts p)
-unfolding triedCuts
-straddle-tried p u v i d s = live-cut p (length (s .front)) .1 (straddle-live p u v i d s)
+use Rattle.lyndon.specs.Cuts.{Live, live-cut, Straddle, straddle-view, straddle-live, straddle-once}
 
 cut-in : (cuts u : List ℕ) (i : ℕ) → cutIn cuts u i ≡ true → (c : ℕ) × In c cuts × (i + c ≡ length u)
 unfolding cutIn
@@ -52,31 +36,97 @@ in-cut (d ∷ cuts) u i c m e = ⊎-elim
     (λ k. or-right (eqb (i + d) (length u)) (cutIn cuts u i) (in-cut cuts u i c k e))
     (in-cons m)
 
--- ---- the straddling occurrences are those cut at a cut that is tried
+-- ---- the straddling occurrences are those cut at one of some cuts
 
-pub straddling-tried : (p u v : List ℕ) → Std u v → straddling p u v ≡ cutAt p (triedCuts p) u v
+-- cuts that may be tried at a join: each is a cut, and under a standard factorization every straddling occurrence is cut at one
+pub record Suffices (p cuts : List ℕ) : Type 0 where
+  pub cut : (c : ℕ) → In c cuts → (0 < c) × (c < length p)
+  pub straddle : (u v : List ℕ) (i : ℕ) → Std u v → (s : Straddle p u v i) → In (length (s .front)) cuts
+
+pub straddling-cut : (p cuts u v : List ℕ) → Suffices p cuts → Std u v → straddling p u v ≡ cutAt p cuts u v
 unfolding straddling cutAt straddles
-straddling-tried p u v d =
+straddling-cut p cuts u v ok d =
     below-ext
     (λ i. begins p (drop i (u ++ v)) && (ltb i (length u) && ltb (length u) (i + length p)))
-    (λ i. begins p (drop i (u ++ v)) && cutIn (triedCuts p) u i) (suc (length (u ++ v)))
-    (λ i h. and-same (begins p (drop i (u ++ v))) (ltb i (length u) && ltb (length u) (i + length p)) (cutIn (triedCuts p) u i)
-    (λ b. bool-ext (ltb i (length u) && ltb (length u) (i + length p)) (cutIn (triedCuts p) u i) (to i b) (from i)))
+    (λ i. begins p (drop i (u ++ v)) && cutIn cuts u i)
+    (suc (length (u ++ v)))
+    (λ i h. and-same (begins p (drop i (u ++ v))) (ltb i (length u) && ltb (length u) (i + length p)) (cutIn cuts u i)
+    (λ b. bool-ext (ltb i (length u) && ltb (length u) (i + length p)) (cutIn cuts u i) (to i b) (from i)))
   where
-    to : (i : ℕ) → begins p (drop i (u ++ v)) ≡ true → ltb i (length u) && ltb (length u) (i + length p) ≡ true → cutIn (triedCuts p) u i ≡ true
+    to : (i : ℕ) → begins p (drop i (u ++ v)) ≡ true → ltb i (length u) && ltb (length u) (i + length p) ≡ true → cutIn cuts u i ≡ true
     to i b e =
-        let s = straddle-view p u v i b (ltb-true i (length u) (and-left (ltb i (length u)) (ltb (length u) (i + length p)) e)) (ltb-true (length u) (i + length p) (and-right (ltb i (length u)) (ltb (length u) (i + length p)) e)) in
-        in-cut (triedCuts p) u i (length (s .front)) (straddle-tried p u v i d s) (omega (arith, s .place, simp length-append at (ap length (s .left))))
+        let s = straddle-view p u v i b
+        (ltb-true i (length u) (and-left (ltb i (length u)) (ltb (length u) (i + length p)) e))
+        (ltb-true (length u) (i + length p) (and-right (ltb i (length u)) (ltb (length u) (i + length p)) e)) in
+        in-cut cuts u i (length (s .front)) (ok .straddle u v i d s) (omega (arith, s .place, simp length-append at (ap length (s .left))))
 
-    from : (i : ℕ) → cutIn (triedCuts p) u i ≡ true → ltb i (length u) && ltb (length u) (i + length p) ≡ true
+    from : (i : ℕ) → cutIn cuts u i ≡ true → ltb i (length u) && ltb (length u) (i + length p) ≡ true
     from i e =
-        let (c, m, q) = cut-in (triedCuts p) u i e in
-        let (z, k, l) = tried-live p c m in
+        let (c, m, q) = cut-in cuts u i e in
+        let (z, k) = ok .cut c m in
         and-intro (ltb i (length u)) (ltb (length u) (i + length p)) (lt-ltb i (length u) (omega arith)) (lt-ltb (length u) (i + length p) (omega arith))
 
-pub straddling-cut : (p u v : List ℕ) → Std u v → straddling p u v ≡ cutAt p (liveCuts p) u v
+-- the live cuts suffice
+pub live-suffice : (p : List ℕ) → Suffices p (liveCuts p)
+live-suffice p =
+    record {
+      cut = λ c m. let (z, k, l) = live-cut p c .0 m in (z, k);
+      straddle = λ u v i d s. live-cut p (length (s .front)) .1 (straddle-live p u v i d s);
+    }
+
+-- the cuts that a search tries at a join: the live cuts
+unfoldable pub triedCuts : List ℕ → List ℕ
+triedCuts p = liveCuts p
+
+pub tried-live : (p : List ℕ) (c : ℕ) → In c (triedCuts p) → Live p c
 unfolding triedCuts
-straddling-cut p u v d = straddling-tried p u v d
+tried-live p c m = live-cut p c .0 m
+
+pub tried-suffice : (p : List ℕ) → Suffices p (triedCuts p)
+unfolding triedCuts
+tried-suffice p = live-suffice p
+
+-- an occurrence is cut at the join at one of the cuts exactly when, for some c of them, it begins c before the join: u ends with the
+-- first c symbols of p and v begins with the others
+pub cut-at : (p cuts u v : List ℕ) (i : ℕ) → In i (cutAt p cuts u v) → (c : ℕ) × In c cuts × (i + c ≡ length u) × (begins p (drop i (u ++ v)) ≡ true)
+unfolding cutAt
+cut-at p cuts u v i m =
+    let (h, e) = below-lt (λ k. begins p (drop k (u ++ v)) && cutIn cuts u k) (suc (length (u ++ v))) i m in
+    let (c, n, q) = cut-in cuts u i (and-right (begins p (drop i (u ++ v))) (cutIn cuts u i) e) in
+    (c, n, q, and-left (begins p (drop i (u ++ v))) (cutIn cuts u i) e)
+
+pub at-cut : (p cuts x y q k : List ℕ) → In (length q) cuts → p ≡ q ++ k → In (length x) (cutAt p cuts (x ++ q) (k ++ y))
+unfolding cutAt
+at-cut p cuts x y q k m e =
+    below-in (λ j. begins p (drop j (whole)) && cutIn cuts (x ++ q) j) (suc (length whole)) (length x)
+    (simp (length-append, length-append) (omega arith))
+    (and-intro (begins p (drop (length x) whole)) (cutIn cuts (x ++ q) (length x))
+    (rest-begins p (drop (length x) whole) y (ap (drop (length x)) regroup ∙ drop-append-seam x (p ++ y)))
+    (in-cut cuts (x ++ q) (length x) (length q) m (sym (length-append x q))))
+  where
+    whole : List ℕ
+    whole = (x ++ q) ++ (k ++ y)
+
+    regroup : whole ≡ x ++ (p ++ y)
+    regroup = append-assoc x q (k ++ y) ∙ ap (λ (z : List ℕ). x ++ z) (sym (append-assoc q k y) ∙ ap (λ (z : List ℕ). z ++ y) (sym e))
+
+-- at most one occurrence straddles
+pub straddling-most : (p u v : List ℕ) → Std u v → length (straddling p u v) ≤ 1
+unfolding straddling straddles
+straddling-most p u v d =
+    rising-most (below test (suc (length (u ++ v)))) (below-rising test (suc (length (u ++ v))))
+    (λ i j m n h. straddle-once p u v i j d (view i m) (view j n) h)
+  where
+    test : ℕ → Bool
+    test i = begins p (drop i (u ++ v)) && (ltb i (length u) && ltb (length u) (i + length p))
+
+    view : (i : ℕ) → In i (below test (suc (length (u ++ v)))) → Straddle p u v i
+    view i m =
+        let (h, e) = below-lt test (suc (length (u ++ v))) i m in
+        let b = and-right (begins p (drop i (u ++ v))) (ltb i (length u) && ltb (length u) (i + length p)) e in
+        straddle-view p u v i (and-left (begins p (drop i (u ++ v))) (ltb i (length u) && ltb (length u) (i + length p)) e)
+        (ltb-true i (length u) (and-left (ltb i (length u)) (ltb (length u) (i + length p)) b))
+        (ltb-true (length u) (i + length p) (and-right (ltb i (length u)) (ltb (length u) (i + length p)) b))
 
 -- ---- all occurrences in u ++ v
 

@@ -1,13 +1,14 @@
-pub mod Order
+pub mod Lexical
 pub mod Words
 pub mod Factorization
 pub mod Trees
 pub mod Forest
 pub mod Numbering
-pub mod Orders
+pub mod Sequence
 pub mod Rules
 pub mod Closings
 pub mod Ranks
+pub mod Encoding
 pub mod Tables
 pub mod Reading
 pub mod Occurrences

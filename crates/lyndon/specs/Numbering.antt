@@ -1,6 +1,5 @@
--- The strings of a Lyndon tree in the order in which they are first met: no string twice, each behind its parts (`order-numbered`),
--- the root's last (`order-root`), every other a half of a later one (`order-half`).
--- That x stands among the strings S is `Has S x`: the index of x is below the length.
+-- The strings of a Lyndon tree in the order in which they are first met: no string twice, none empty, each behind its parts
+-- (`order-numbered`). That x stands among the strings S is `Has S x`: the index of x is below the length.
 use mathlib.Core.Path.{_≡_, refl, sym, _∙_, ap, subst}
 use mathlib.Core.Bool.{true, false}
 use mathlib.Core.Logic.{_⊎_, inl, inr, ⊎-elim}

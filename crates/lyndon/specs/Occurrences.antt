@@ -17,6 +17,7 @@ use Rattle.definitions.specs.Table.{rankOf, byteOf, marked}
 use Rattle.definitions.specs.Occurrences.{occurrences}
 use Rattle.lists.specs.Bools.{bool-ext}
 use Rattle.lists.specs.Numbers.{Rising, below-in, below-lt, below-rising, below-ext, below-shift}
+use Rattle.lists.specs.Members.{drop-map, in-drop}
 use Rattle.lists.specs.Strings.{begins-rest, rest-begins}
 use Rattle.lyndon.specs.Ranks.{Bytes, byte-of-rank, rank-range}
 
@@ -115,16 +116,6 @@ begins-ranks o (a ∷ p) (b ∷ s) hp hs =
     (λ e. eq-eqb a b (sym (byte-of-rank o a (hp a (here refl))) ∙ ap (byteOf o) (eqb-true (rankOf o a) (rankOf o b) e) ∙ byte-of-rank o b (hs b (here refl))))
     (λ e. eq-eqb (rankOf o a) (rankOf o b) (ap (rankOf o) (eqb-true a b e))))
     (begins-ranks o p s (λ x m. hp x (there m)) (λ x m. hs x (there m)))
-
-drop-map : (f : ℕ → ℕ) (i : ℕ) (l : List ℕ) → drop i (map f l) ≡ map f (drop i l)
-drop-map f zero l = refl
-drop-map f (suc i) [] = refl
-drop-map f (suc i) (a ∷ l) = drop-map f i l
-
-in-drop : (i : ℕ) (l : List ℕ) (b : ℕ) → In b (drop i l) → In b l
-in-drop zero l b m = m
-in-drop (suc i) [] b m = m
-in-drop (suc i) (a ∷ l) b m = there (in-drop i l b m)
 
 -- no sample is the mark
 not-mark : (o : Order) (p s : List ℕ) → 0 < length p → Bytes p → begins (map (rankOf o) p) (0 ∷ s) ≡ false

@@ -11,15 +11,16 @@ use lib.Dec.{ltb, eqb}
 use borrow.Author.Tests.{ltb-true, eqb-true}
 use Rattle.definitions.specs.declared.Order.{Order}
 use Rattle.definitions.specs.Grammar.{leftOf, rightOf, order}
-use Rattle.definitions.specs.Table.{numberOfRank, marked, words, kindOf, numberOf, tableOf, isTable, textOf, chairOf, isPair, leftHalf, rightHalf, ruleString}
-use Rattle.definitions.specs.Occurrences.{occurrences, liveCuts, straddling, cutAt}
+use Rattle.definitions.specs.Table.{rankOf, numberOfRank, marked, words, kindOf, numberOf, tableOf, isTable, textOf, chairOf, isPair, leftHalf, rightHalf, ruleString}
+use Rattle.definitions.specs.Occurrences.{occurrences, liveCuts, patternCuts, straddling, cutAt}
 use Rattle.lists.specs.Bools.{and-left, and-right}
 use Rattle.lyndon.specs.Factorization.{Std, std-parts}
 use Rattle.lyndon.specs.Rules.{rulesFor}
 use Rattle.lyndon.specs.Ranks.{number-range}
-use Rattle.lyndon.specs.Tables.{Entry, one, two, entry, word-kind, word-number}
+use Rattle.lyndon.specs.Encoding.{word-kind, word-number}
+use Rattle.lyndon.specs.Tables.{Entry, one, two, entry}
 use Rattle.lyndon.specs.Reading.{Stored, storable, order-most, table-words, table-rules, table-strings, accepted-stored, accepted-table}
-use Rattle.lyndon.specs.Joins.{straddling-cut, occurrences-join}
+use Rattle.lyndon.specs.Joins.{straddling-cut, live-suffice, occurrences-join}
 
 -- the string of rule r is its halves' strings, and these are its standard factorization
 abbrev pub Halves : Order → List ℕ → ℕ → Type 0
@@ -66,7 +67,7 @@ pair-halves o t a r e =
 -- trying live cuts alone loses no occurrence
 pub pair-straddling : (o : Order) (t : List ℕ) → isTable o t ≡ true → (r : ℕ) → isPair t r ≡ true → (p : List ℕ)
     → straddling p (leftHalf o t r) (rightHalf o t r) ≡ cutAt p (liveCuts p) (leftHalf o t r) (rightHalf o t r)
-pair-straddling o t a r e p = straddling-cut p (leftHalf o t r) (rightHalf o t r) (pair-halves o t a r e .1)
+pair-straddling o t a r e p = straddling-cut p (liveCuts p) (leftHalf o t r) (rightHalf o t r) (live-suffice p) (pair-halves o t a r e .1)
 
 pub pair-occurrences : (o : Order) (t : List ℕ) → isTable o t ≡ true → (r : ℕ) → isPair t r ≡ true → (p : List ℕ) → 0 < length p
     → occurrences p (ruleString o t r)
@@ -76,4 +77,10 @@ pair-occurrences o t a r e p h =
     let (s, d) = pair-halves o t a r e in
     ap (occurrences p) s
     ∙ occurrences-join p (leftHalf o t r) (rightHalf o t r) h
-    ∙ ap (λ (x : List ℕ). occurrences p (leftHalf o t r) ++ (x ++ map (λ (k : ℕ). length (leftHalf o t r) + k) (occurrences p (rightHalf o t r)))) (straddling-cut p (leftHalf o t r) (rightHalf o t r) d)
+    ∙ ap (λ (x : List ℕ). occurrences p (leftHalf o t r) ++ (x ++ map (λ (k : ℕ). length (leftHalf o t r) + k) (occurrences p (rightHalf o t r)))) (straddling-cut p (liveCuts p) (leftHalf o t r) (rightHalf o t r) (live-suffice p) d)
+
+-- the same for a pattern of samples and its live cuts
+pub pattern-straddling : (o : Order) (t : List ℕ) → isTable o t ≡ true → (r : ℕ) → isPair t r ≡ true → (p : List ℕ)
+    → straddling (map (rankOf o) p) (leftHalf o t r) (rightHalf o t r) ≡ cutAt (map (rankOf o) p) (patternCuts o p) (leftHalf o t r) (rightHalf o t r)
+unfolding patternCuts
+pattern-straddling o t a r e p = pair-straddling o t a r e (map (rankOf o) p)

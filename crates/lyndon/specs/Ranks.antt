@@ -15,7 +15,8 @@ use Rattle.definitions.specs.Table.{rankOf, byteOf, numberOfRank, rankOfNumber,
 use Rattle.lists.specs.Bools.{and-left, and-right, and-intro}
 use Rattle.lists.specs.Numbers.{every-at, every-all}
 use Rattle.lists.specs.Lists.{first-of}
-use Rattle.lyndon.specs.Order.{Lt}
+use Rattle.lists.specs.Members.{in-at, at-in, in-map}
+use Rattle.lyndon.specs.Lexical.{Lt}
 use Rattle.lyndon.specs.Words.{Lyndon}
 
 -- ---- the laws of an order of samples
@@ -53,19 +54,6 @@ rank-of-number o (suc r) h = rank-of-byte o (suc r) (omega arith) h
 abbrev pub Bytes : List ℕ → Type 0
 Bytes text = (b : ℕ) → In b text → b < 256
 
-in-at : (b : ℕ) (l : List ℕ) → In b l → (i : ℕ) × (i < length l) × (getD l i 0 ≡ b)
-in-at b [] m = absurd (in-nil m)
-in-at b (a ∷ l) m = go (in-cons m) (λ k. in-at b l k)
-  where
-    go : (b ≡ a) ⊎ In b l → (In b l → (i : ℕ) × (i < length l) × (getD l i 0 ≡ b)) → (i : ℕ) × (i < suc (length l)) × (getD (a ∷ l) i 0 ≡ b)
-    go (inl e) ih = (zero, omega arith, sym e)
-    go (inr k) ih = let (i, h, e) = ih k in (suc i, omega arith, e)
-
-at-in : (l : List ℕ) (i : ℕ) → i < length l → In (getD l i 0) l
-at-in [] i h = absurd (omega arith)
-at-in (a ∷ l) zero h = here refl
-at-in (a ∷ l) (suc i) h = there (at-in l i (omega arith))
-
 -- a slice of bytes
 pub slice-bytes : (text : List ℕ) → ((i : ℕ) → i < length text → getD text i 0 < 256) → Bytes text
 slice-bytes text h b m = let (i, k, e) = in-at b text m in subst (λ (x : ℕ). x < 256) e (h i k)
@@ -87,14 +75,6 @@ is-drive text h b =
     (every-all test (length text) (λ i k. lt-ltb (getD text i 0) 256 (b (getD text i 0) (at-in text i k))))
 
 -- ---- the marked text
-
-pub in-map : (f : ℕ → ℕ) (r : ℕ) (l : List ℕ) → In r (map f l) → (b : ℕ) × In b l × (r ≡ f b)
-in-map f r [] m = absurd (in-nil m)
-in-map f r (a ∷ l) m = go (in-cons m) (λ k. in-map f r l k)
-  where
-    go : (r ≡ f a) ⊎ In r (map f l) → (In r (map f l) → (b : ℕ) × In b l × (r ≡ f b)) → (b : ℕ) × In b (a ∷ l) × (r ≡ f b)
-    go (inl e) ih = (a, here refl, e)
-    go (inr k) ih = let (b, i, e) = ih k in (b, there i, e)
 
 pub bytes-back : (o : Order) (text : List ℕ) → Bytes text → map (byteOf o) (map (rankOf o) text) ≡ text
 bytes-back o [] h = refl

@@ -1,27 +1,29 @@
 -- Reading back: the table of a drive and a chair number spells that drive and gives that number (`table-text`, `table-chair`),
 -- has at most 4,608 words (`table-size`), none of them bad (`table-no-bad`), and a table is accepted exactly when it is the table
--- of some drive and chair number (`accepted`).
+-- of some drive and chair number (`accepted`, and `passes` for the checks of 5, 6 and 7).
 use mathlib.Core.Path.{_≡_, refl, sym, _∙_, ap, subst}
-use mathlib.Core.Bool.{Bool, true, _&&_}
+use mathlib.Core.Bool.{Bool, true, false, not, _&&_}
 use mathlib.Core.Logic.{_↔_}
 use mathlib.Core.List.{List, _++_, map, List·Memᴰ as In, Memᴰ·append-left as in-left, Memᴰ·append-right as in-right}
-use Prim.Native.Nat.{ℕ, _*_, _/_, _≤_, _<_}
+use Prim.Native.Nat.{ℕ, _*_, _/_, _%_, _≤_, _<_}
 use native.Mathlib.Omega.{arith}
 use lib.ListN.{length, drop, getD}
 use lib.Dec.{leb}
-use borrow.Author.Tests.{leb-true, le-leb}
+use borrow.Author.Tests.{leb-true, le-leb, le-ltb, ne-eqb, not-false}
 use Rattle.definitions.specs.declared.Order.{Order}
 use Rattle.definitions.specs.Words.{least, same}
 use Rattle.definitions.specs.Grammar.{order, rulesOf}
 use Rattle.definitions.specs.Table.{byteOf, marked, numberOf, words, tableOf, badWord, strings, ruleString, spelled, textOf, chairOf, isDrive, isChair, isTable}
+use Rattle.definitions.specs.Services.{Check, tableLength, hasBadWord, notATable}
 use Rattle.lists.specs.Bools.{and-left, and-right, and-intro}
 use Rattle.lists.specs.Strings.{same-eq, same-self}
 use Rattle.lyndon.specs.Words.{Lyndon}
 use Rattle.lyndon.specs.Numbering.{order-numbered}
-use Rattle.lyndon.specs.Orders.{order-all, order-filled, order-root, order-size}
+use Rattle.lyndon.specs.Sequence.{order-all, order-filled, order-root, order-size}
 use Rattle.lyndon.specs.Rules.{rulesFor, rules-length}
 use Rattle.lyndon.specs.Ranks.{Bytes, drive-is, is-drive, bytes-back, marked-lyndon, marked-symbols, marked-length}
-use Rattle.lyndon.specs.Tables.{Storable, Entry, one, two, entry, beside, word-number, words-length, no-bad-word, strings-back}
+use Rattle.lyndon.specs.Encoding.{beside, word-number, words-length}
+use Rattle.lyndon.specs.Tables.{Storable, Entry, one, two, entry, no-bad-word, strings-back}
 
 -- a drive and a chair number, as values
 pub record Stored (text : List ℕ) (chair : ℕ) : Type 0 where
@@ -145,4 +147,25 @@ pub table-injective : (o : Order) (x y : List ℕ) (c d : ℕ) → Stored x c �
 table-injective o x y c d h k e = (
   sym (table-text o x c h) ∙ ap (textOf o) e ∙ table-text o y d k,
   sym (table-chair o x c h) ∙ ap chairOf e ∙ table-chair o y d k,
+)
+
+-- so it passes the checks of refusals 5, 6 and 7 exactly when it is the table of some drive and chair number
+abbrev pub Passes : Order → List ℕ → Type 0
+Passes o t = (tableLength t .met ≡ false) × (hasBadWord t .met ≡ false) × (notATable o t .met ≡ false)
+
+stored-passes : (o : Order) (text : List ℕ) (chair : ℕ) → Stored text chair → Passes o (tableOf o text chair)
+stored-passes o text chair ok =
+    let t = tableOf o text chair in
+    let filled = table-filled o text chair ok in
+    let size = table-size o text chair ok in
+    let even = table-length o text chair ok in (
+      rw (ne-eqb (length t) 0 (λ e. omega arith), ne-eqb (length t % 2) 1 (λ e. omega arith), le-ltb 4608 (length t) size),
+      le-ltb (least (badWord t) (length t)) (length t) (omega (arith, table-no-bad o text chair ok)),
+      ap not (table-accepted o text chair ok),
+    )
+
+pub passes : (o : Order) (t : List ℕ) → Passes o t ↔ ((text : List ℕ) × (chair : ℕ) × Stored text chair × (t ≡ tableOf o text chair))
+passes o t = (
+  λ h. accepted o t .0 (not-false (isTable o t) (h .2)),
+  λ (text, chair, ok, e). subst (Passes o) (sym e) (stored-passes o text chair ok),
 )

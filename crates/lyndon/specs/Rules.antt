@@ -46,10 +46,13 @@ number K (node l r) =
 
 -- ---- rules as values
 
-rule-same : (x : Rule) → sameRule x x ≡ true
+rule-self : (x : Rule) → sameRule x x ≡ true
 unfolding sameRule
-rule-same (symbol a) = eq-eqb a a refl
-rule-same (pair i j) = and-intro (eqb i i) (eqb j j) (eq-eqb i i refl) (eq-eqb j j refl)
+rule-self (symbol a) = eq-eqb a a refl
+rule-self (pair i j) = and-intro (eqb i i) (eqb j j) (eq-eqb i i refl) (eq-eqb j j refl)
+
+pub rule-same : (x y : Rule) → x ≡ y → sameRule x y ≡ true
+rule-same x y e = rw e (rule-self y)
 
 pub same-rule : (x y : Rule) → sameRule x y ≡ true → x ≡ y
 unfolding sameRule
@@ -149,7 +152,7 @@ find-index f x (y ∷ S) h =
     ap₂ {C = ℕ} (λ b n. cond b zero (suc n))
     (bool-ext (sameRule (f x) (f y)) (same x y)
     (λ e. eq-same x y (h y (here refl) (same-rule (f x) (f y) e)))
-    (λ e. rw (same-eq x y e) (rule-same (f y))))
+    (λ e. rule-same (f x) (f y) (ap f (same-eq x y e))))
     (find-index f x S (λ z i. h z (there i)))
 
 pub find-rule : (S : List (List ℕ)) (x : List ℕ) → Numbered S → 0 < length x → Fits S x → find (ruleOf S x) (rulesFor S) ≡ indexOf x S

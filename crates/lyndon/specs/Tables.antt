@@ -1,81 +1,25 @@
--- The words of a table, rule by rule: what each decodes to (`word-kind`, `word-number`), that none is bad (`no-bad-word`), and that
--- the rules of numbered strings spell these strings (`strings-back`).
-use mathlib.Core.Path.{_≡_, refl, sym, _∙_, ap, subst}
-use mathlib.Core.Bool.{false, cond}
+-- The table of numbered strings: what stands at each rule (`entry`), no word is bad (`no-bad-word`), and it spells these strings
+-- (`strings-back`).
+use mathlib.Core.Path.{_≡_, refl, sym, _∙_, ap, ap₂, subst}
+use mathlib.Core.Bool.{false, cond, _&&_}
 use mathlib.Core.List.{List, [], _∷_, map, List·Memᴰ as In, List·Memᴰ·head as here}
 use Prim.Native.Nat.{ℕ, zero, suc, _+_, _-_, _*_, _/_, _%_, _^_, _≤_, _<_}
 use native.Mathlib.Omega.{arith}
 use lib.ListN.{length, take, getD, List·getD-map}
 use lib.Seq.{take-suc, getD-take, take-length}
 use lib.Dec.{eqb}
-use borrow.Author.Tests.{lt-ltb, le-leb, eq-eqb, ne-eqb}
+use borrow.Author.Tests.{lt-ltb, le-leb, eqb-true, eq-eqb, ne-eqb}
 use Rattle.definitions.specs.declared.Order.{Order}
 use Rattle.definitions.specs.Words.{least}
 use Rattle.definitions.specs.Grammar.{leftOf, rightOf, indexOf, Rule, symbol, pair, ruleOf}
-use Rattle.definitions.specs.Table.{numberOfRank, wordOf, kindOf, numberOf, ruleWords, words, badFirst, badSecond, badWord, stringOf, strings}
+use Rattle.definitions.specs.Table.{numberOfRank, rankOfNumber, wordOf, kindOf, numberOf, ruleWords, words, badFirst, badSecond, badWord, stringOf, strings}
+use Rattle.lists.specs.Bools.{bool-ext, and-left, and-right, and-intro}
 use Rattle.lists.specs.Numbers.{split-le, least-none}
 use Rattle.lyndon.specs.Factorization.{std-parts}
 use Rattle.lyndon.specs.Numbering.{Has, Numbered, index-at}
-use Rattle.lyndon.specs.Rules.{rulesFor, rules-length, rule-symbol, rule-pair}
+use Rattle.lyndon.specs.Rules.{sameRule, same-rule, rule-same, find, rulesFor, rules-length, rule-symbol, rule-pair}
 use Rattle.lyndon.specs.Ranks.{number-range, rank-of-number}
-
--- ---- one word
-
-pub word-kind : (k n : ℕ) → n < 2 ^ 30 → kindOf (wordOf k n) ≡ k
-unfolding kindOf wordOf
-word-kind k n h = omega arith
-
-pub word-number : (k n : ℕ) → n < 2 ^ 30 → numberOf (wordOf k n) ≡ n
-unfolding numberOf wordOf
-word-number k n h = omega arith
-
--- ---- the two words of a rule
-
-unfoldable pub firstWord : Order → Rule → ℕ
-firstWord o (symbol a) = wordOf 0 (numberOfRank o a)
-firstWord o (pair u v) = wordOf 1 u
-
--- c is the number beside a symbol
-unfoldable pub secondWord : ℕ → Rule → ℕ
-secondWord c (symbol a) = wordOf 3 c
-secondWord c (pair u v) = wordOf 2 v
-
--- the number beside the symbol of rule r
-unfoldable pub beside : ℕ → ℕ → ℕ
-beside c zero = c
-beside c (suc r) = 0
-
-pub words-cons : (o : Order) (c : ℕ) (x : Rule) (K : List Rule) → words o c (x ∷ K) ≡ firstWord o x ∷ secondWord c x ∷ words o 0 K
-unfolding words ruleWords firstWord secondWord
-words-cons o c (symbol a) K = refl
-words-cons o c (pair u v) K = refl
-
-pub words-length : (o : Order) (c : ℕ) (K : List Rule) → length (words o c K) ≡ 2 * length K
-unfolding words
-words-length o c [] = refl
-words-length o c (x ∷ K) = rw (words-cons o c x K) (omega (arith, words-length o 0 K))
-
-double-suc : (r : ℕ) → 2 * suc r ≡ suc (suc (2 * r))
-double-suc r = omega arith
-
-pub words-first : (o : Order) (c : ℕ) (K : List Rule) (r : ℕ) → r < length K → getD (words o c K) (2 * r) 0 ≡ firstWord o (getD K r (symbol 0))
-words-first o c [] r h = absurd (omega arith)
-words-first o c (x ∷ K) zero h = rw (words-cons o c x K)
-words-first o c (x ∷ K) (suc r) h = rw (words-cons o c x K, double-suc r) (words-first o 0 K r (omega arith))
-
-pub words-second : (o : Order) (c : ℕ) (K : List Rule) (r : ℕ) → r < length K
-    → getD (words o c K) (2 * r + 1) 0 ≡ secondWord (beside c r) (getD K r (symbol 0))
-unfolding beside
-words-second o c [] r h = absurd (omega arith)
-words-second o c (x ∷ K) zero h = rw (words-cons o c x K)
-words-second o c (x ∷ K) (suc r) h = rw (words-cons o c x K, later) (words-second o 0 K r (omega arith) ∙ ap (λ (n : ℕ). secondWord n (getD K r (symbol 0))) (none r))
-  where
-    later : 2 * suc r + 1 ≡ suc (suc (2 * r + 1))
-    later = omega arith
-
-    none : (r : ℕ) → beside 0 r ≡ 0
-    none zero = refl
-    none (suc r) = refl
+use Rattle.lyndon.specs.Encoding.{firstWord, secondWord, beside, word-kind, word-number, words-first, words-second, words-length}
 
 -- ---- the table of numbered strings over 257 symbols
 

@@ -9,7 +9,7 @@ use lib.ListN.{length, getD, length-append}
 use borrow.Author.Tests.{lt-ltb, le-ltb}
 use Rattle.definitions.specs.Grammar.{Tree, leaf, node, word, split, lyndonTree, leftOf, rightOf}
 use Rattle.lists.specs.Numbers.{split-le}
-use Rattle.lyndon.specs.Order.{Lt}
+use Rattle.lyndon.specs.Lexical.{Lt}
 use Rattle.lyndon.specs.Words.{Lyndon, lyndon-one, lyndon-append}
 use Rattle.lyndon.specs.Factorization.{Std, std-lyndon, std-left, std-right, std-parts, left-lyndon, left-smaller}
 

@@ -14,14 +14,14 @@ use Rattle.definitions.specs.Words.{every, lexlt, lyndon}
 use Rattle.lists.specs.Bools.{and-left, and-right, and-intro, or-left, or-right, or-cases}
 use Rattle.lists.specs.Numbers.{split-le, every-at, every-all}
 use Rattle.lists.specs.Lists.{Overlap, within, across, overlap}
-use Rattle.lyndon.specs.Order.{Lt, Dif, lexlt-lt, lt-lexlt, dif-append, dif-lt, lt-cases, lt-trans, lt-append}
+use Rattle.lyndon.specs.Lexical.{Lt, Dif, lexlt-lt, lt-lexlt, dif-append, dif-lt, lt-cases, lt-trans, lt-append}
 
 -- w is a Lyndon word
 pub record Lyndon (w : List ℕ) : Type 0 where
   pub filled : 0 < length w
   pub least : (p s : List ℕ) → 0 < length p → 0 < length s → w ≡ p ++ s → Lt w s
 
--- the test that a Lyndon word passes beside its suffix from k on
+-- the Bool function decides it
 pub lyndon-is : (w : List ℕ) → lyndon w ≡ true → Lyndon w
 unfolding lyndon
 lyndon-is w e = record { filled = ltb-true 0 (length w) (and-left (ltb 0 (length w)) tests e); least = least }
@@ -66,13 +66,13 @@ lyndon-one a =
       least = λ p s hp hs e. absurd (omega (arith, simp length-append at (ap length e)));
     }
 
--- u ++ v is smaller than v
-before-right : (u v : List ℕ) → Lyndon u → Lyndon v → Lt u v → Lt (u ++ v) v
-before-right u v lu lv h = go (lt-cases u v h)
+-- u before a greater Lyndon word v: u ++ v is smaller than v
+pub lt-joined : (u v : List ℕ) → 0 < length u → Lyndon v → Lt u v → Lt (u ++ v) v
+lt-joined u v hu lv h = go (lt-cases u v h)
   where
     go : Dif u v ⊎ ((r : List ℕ) × (0 < length r) × (v ≡ u ++ r)) → Lt (u ++ v) v
     go (inl d) = dif-lt (u ++ v) v (subst (λ (t : List ℕ). Dif (u ++ v) t) (append-nil v) (dif-append u v v [] d))
-    go (inr (x)) = subst (λ (t : List ℕ). Lt (u ++ v) t) (sym (x .2)) (lt-append u v (x .0) (lv .least u (x .0) (lu .filled) (x .1) (x .2)))
+    go (inr (r, n, e)) = subst (λ (t : List ℕ). Lt (u ++ v) t) (sym e) (lt-append u v r (lv .least u r hu n e))
 
 -- Lyndon words u < v: u ++ v is a Lyndon word
 pub lyndon-append : (u v : List ℕ) → Lyndon u → Lyndon v → Lt u v → Lyndon (u ++ v)
@@ -82,8 +82,8 @@ lyndon-append u v lu lv h =
     least : (p s : List ℕ) → 0 < length p → 0 < length s → Overlap p s u v → Lt (u ++ v) s
     least p s hp hs (within q x y) =
         split-le (length q) 0
-        (λ z. subst (λ (t : List ℕ). Lt (u ++ v) t) (whole q y z) (before-right u v lu lv h))
-        (λ z. lt-trans (u ++ v) v s (before-right u v lu lv h) (lv .least q s z hs y))
+        (λ z. subst (λ (t : List ℕ). Lt (u ++ v) t) (whole q y z) (lt-joined u v (lu .filled) lv h))
+        (λ z. lt-trans (u ++ v) v s (lt-joined u v (lu .filled) lv h) (lv .least q s z hs y))
       where
         whole : (q : List ℕ) → v ≡ q ++ s → length q ≤ 0 → v ≡ s
         whole [] y z = y

@@ -1,0 +1,38 @@
+-- Members of a list of numbers: at an index, in a mapped list, behind a place.
+use mathlib.Core.Path.{_≡_, refl, sym}
+use mathlib.Core.Logic.{_⊎_, inl, inr}
+use mathlib.Core.List.{List, [], _∷_, map, List·Memᴰ as In, List·Memᴰ·head as here, List·Memᴰ·tail as there, List·Memᴰ·not-nil as in-nil, List·Memᴰ·cases-cons as in-cons}
+use Prim.Native.Nat.{ℕ, zero, suc, _<_}
+use native.Mathlib.Omega.{arith}
+use lib.ListN.{length, drop, getD}
+
+pub in-at : (b : ℕ) (l : List ℕ) → In b l → (i : ℕ) × (i < length l) × (getD l i 0 ≡ b)
+in-at b [] m = absurd (in-nil m)
+in-at b (a ∷ l) m = go (in-cons m) (λ k. in-at b l k)
+  where
+    go : (b ≡ a) ⊎ In b l → (In b l → (i : ℕ) × (i < length l) × (getD l i 0 ≡ b)) → (i : ℕ) × (i < suc (length l)) × (getD (a ∷ l) i 0 ≡ b)
+    go (inl e) ih = (zero, omega arith, sym e)
+    go (inr k) ih = let (i, h, e) = ih k in (suc i, omega arith, e)
+
+pub at-in : (l : List ℕ) (i : ℕ) → i < length l → In (getD l i 0) l
+at-in [] i h = absurd (omega arith)
+at-in (a ∷ l) zero h = here refl
+at-in (a ∷ l) (suc i) h = there (at-in l i (omega arith))
+
+pub in-map : (f : ℕ → ℕ) (r : ℕ) (l : List ℕ) → In r (map f l) → (b : ℕ) × In b l × (r ≡ f b)
+in-map f r [] m = absurd (in-nil m)
+in-map f r (a ∷ l) m = go (in-cons m) (λ k. in-map f r l k)
+  where
+    go : (r ≡ f a) ⊎ In r (map f l) → (In r (map f l) → (b : ℕ) × In b l × (r ≡ f b)) → (b : ℕ) × In b (a ∷ l) × (r ≡ f b)
+    go (inl e) ih = (a, here refl, e)
+    go (inr k) ih = let (b, i, e) = ih k in (b, there i, e)
+
+pub drop-map : (f : ℕ → ℕ) (i : ℕ) (l : List ℕ) → drop i (map f l) ≡ map f (drop i l)
+drop-map f zero l = refl
+drop-map f (suc i) [] = refl
+drop-map f (suc i) (a ∷ l) = drop-map f i l
+
+pub in-drop : (i : ℕ) (l : List ℕ) (b : ℕ) → In b (drop i l) → In b l
+in-drop zero l b m = m
+in-drop (suc i) [] b m = m
+in-drop (suc i) (a ∷ l) b m = there (in-drop i l b m)
