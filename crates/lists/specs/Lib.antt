@@ -3,3 +3,5 @@ pub mod Numbers
 pub mod Lists
 pub mod Members
 pub mod Strings
+pub mod Parts
+pub mod Newest

@@ -1,9 +1,9 @@
 -- One number a symbol says the tree: how many joins close right behind it. The right-to-left pass adds one at the last symbol of
 -- the right part at each join (`merge-closings`); the left-to-right pass pushes a symbol's rule and then joins the two top rules
 -- that many times, and so gives the rules of the definition (`run-rules`).
-use mathlib.Core.Path.{_≡_, refl, sym, _∙_, ap, ap₂}
+use mathlib.Core.Path.{_≡_, refl, sym, _∙_, ap, ap₂, subst}
 use mathlib.Core.List.{List, [], _∷_, _++_, append-assoc, append-nil}
-use Prim.Native.Nat.{ℕ, zero, suc, _+_, _<_}
+use Prim.Native.Nat.{ℕ, zero, suc, _+_, _-_, _≤_, _<_}
 use native.Mathlib.Omega.{arith}
 use lib.ListN.{length, length-append}
 use Rattle.lists.specs.Numbers.{split-le}
@@ -59,6 +59,27 @@ pub closingsOf-length : (f : List Tree) → length (closingsOf f) ≡ length (sp
 unfolding closingsOf spells
 closingsOf-length [] = refl
 closingsOf-length (t ∷ f) = simp length-append (ap₂ {C = ℕ} (λ m n. m + n) (closings-length 0 t) (closingsOf-length f))
+
+-- with d on the stack, each symbol is pushed and has its joins: there are always two to join
+abbrev pub Enough : ℕ → List ℕ → Type 0
+Enough d [] = Unit {0}
+Enough d (k ∷ c) = (k ≤ d) × Enough (suc d - k) c
+
+tree-enough : (d k : ℕ) (t : Tree) (c : List ℕ) → k ≤ d → Enough (suc d - k) c → Enough d (closings k t ++ c)
+unfolding closings
+tree-enough d k (leaf a) c h e = (h, e)
+tree-enough d k (node l r) c h e =
+    rw append-assoc
+    (tree-enough d 0 l (closings (suc k) r ++ c) (omega arith)
+    (tree-enough (suc d - 0) (suc k) r c (omega arith) (subst (λ (m : ℕ). Enough m c) same e)))
+  where
+    same : suc d - k ≡ suc (suc d - 0) - suc k
+    same = omega arith
+
+pub forest-enough : (d : ℕ) (f : List Tree) → Enough d (closingsOf f)
+unfolding closingsOf
+forest-enough d [] = tt
+forest-enough d (t ∷ f) = tree-enough d 0 t (closingsOf f) (omega arith) (forest-enough (suc d - 0) f)
 
 -- one more behind the last symbol
 unfoldable pub bump : List ℕ → List ℕ
@@ -145,6 +166,21 @@ run-extends s (a ∷ w) (k ∷ c) =
     extend (s .rules) (joins k t .rules) (run (joins k t) w c .rules)
     (extend (s .rules) (t .rules) (joins k t .rules) (intern-extends (s .rules) (symbol a)) (joins-extends k t))
     (run-extends (joins k t) w c)
+
+-- each join leaves one less on the stack
+join-depth : (K : List Rule) (stack : List ℕ) → 2 ≤ length stack → suc (length (joinTop K stack .stack)) ≡ length stack
+unfolding joinTop push
+join-depth K [] h = absurd (omega arith)
+join-depth K (j ∷ []) h = absurd (omega arith)
+join-depth K (j ∷ i ∷ stack) h = refl
+
+pub joins-depth : (k : ℕ) (s : State) → k < length (s .stack) → length (joins k s .stack) + k ≡ length (s .stack)
+unfolding joins
+joins-depth zero s h = omega arith
+joins-depth (suc k) s h =
+    let one = join-depth (s .rules) (s .stack) (omega arith) in
+    let rest = joins-depth k (joinTop (s .rules) (s .stack)) (omega arith) in
+    omega arith
 
 -- the state once a tree is numbered and its root's rule is pushed
 unfoldable pub pushed : State → Tree → State

@@ -1,23 +1,18 @@
 -- The two words of a rule: what they decode to (`word-kind`, `word-number`), where they stand in a table (`words-first`,
 -- `words-second`), and that looking a rule up by its words finds what looking it up as a rule finds (`find-encoded`).
-use mathlib.Core.Path.{_≡_, refl, sym, _∙_, ap, ap₂, subst}
-use mathlib.Core.Bool.{false, cond, _&&_}
-use mathlib.Core.List.{List, [], _∷_, map, List·Memᴰ as In, List·Memᴰ·head as here}
-use Prim.Native.Nat.{ℕ, zero, suc, _+_, _-_, _*_, _/_, _%_, _^_, _≤_, _<_}
+use mathlib.Core.Path.{_≡_, refl, sym, _∙_, ap, ap₂}
+use mathlib.Core.List.{List, [], _∷_}
+use Prim.Native.Nat.{ℕ, zero, suc, _+_, _*_, _^_, _<_}
 use native.Mathlib.Omega.{arith}
-use lib.ListN.{length, take, getD, List·getD-map}
-use lib.Seq.{take-suc, getD-take, take-length}
+use lib.ListN.{length, getD}
 use lib.Dec.{eqb}
-use borrow.Author.Tests.{lt-ltb, le-leb, eqb-true, eq-eqb, ne-eqb}
+use borrow.Author.Tests.{eqb-true, eq-eqb}
 use Rattle.definitions.specs.declared.Order.{Order}
-use Rattle.definitions.specs.Words.{least}
-use Rattle.definitions.specs.Grammar.{leftOf, rightOf, indexOf, Rule, symbol, pair, ruleOf}
-use Rattle.definitions.specs.Table.{numberOfRank, rankOfNumber, wordOf, kindOf, numberOf, ruleWords, words, badFirst, badSecond, badWord, stringOf, strings}
+use Rattle.definitions.specs.Grammar.{Rule, symbol, pair}
+use Rattle.definitions.specs.Table.{numberOfRank, rankOfNumber, wordOf, kindOf, numberOf, ruleWords, words}
 use Rattle.lists.specs.Bools.{bool-ext, and-left, and-right, and-intro}
-use Rattle.lists.specs.Numbers.{split-le, least-none}
-use Rattle.lyndon.specs.Factorization.{std-parts}
-use Rattle.lyndon.specs.Numbering.{Has, Numbered, index-at}
-use Rattle.lyndon.specs.Rules.{sameRule, same-rule, rule-same, find, rulesFor, rules-length, rule-symbol, rule-pair}
+use Rattle.lists.specs.Newest.{hasWords, newest, newest-ext}
+use Rattle.lyndon.specs.Rules.{sameRule, same-rule, rule-same, isRule, find}
 use Rattle.lyndon.specs.Ranks.{number-range, rank-of-number}
 
 -- ---- one word
@@ -46,6 +41,11 @@ unfoldable pub beside : ℕ → ℕ → ℕ
 beside c zero = c
 beside c (suc r) = 0
 
+beside-none : (r : ℕ) → beside 0 r ≡ 0
+unfolding beside
+beside-none zero = refl
+beside-none (suc r) = refl
+
 pub words-cons : (o : Order) (c : ℕ) (x : Rule) (K : List Rule) → words o c (x ∷ K) ≡ firstWord o x ∷ secondWord c x ∷ words o 0 K
 unfolding words ruleWords firstWord secondWord
 words-cons o c (symbol a) K = refl
@@ -69,14 +69,10 @@ pub words-second : (o : Order) (c : ℕ) (K : List Rule) (r : ℕ) → r < lengt
 unfolding beside
 words-second o c [] r h = absurd (omega arith)
 words-second o c (x ∷ K) zero h = rw (words-cons o c x K)
-words-second o c (x ∷ K) (suc r) h = rw (words-cons o c x K, later) (words-second o 0 K r (omega arith) ∙ ap (λ (n : ℕ). secondWord n (getD K r (symbol 0))) (none r))
+words-second o c (x ∷ K) (suc r) h = rw (words-cons o c x K, later) (words-second o 0 K r (omega arith) ∙ ap (λ (n : ℕ). secondWord n (getD K r (symbol 0))) (beside-none r))
   where
     later : 2 * suc r + 1 ≡ suc (suc (2 * r + 1))
     later = omega arith
-
-    none : (r : ℕ) → beside 0 r ≡ 0
-    none zero = refl
-    none (suc r) = refl
 
 -- ---- looking a rule up by its two words
 
@@ -107,29 +103,28 @@ encoded-once o (pair u v) (symbol b) h k e f =
 encoded-once o (pair u v) (pair s t) h k e f =
     ap₂ {C = Rule} (λ i j. pair i j) (number-differs 1 1 u s (h .0) (k .0) e) (number-differs 2 2 v t (h .1) (k .1) f)
 
--- where the words x and y first stand as a rule's; the number of rules if nowhere
-unfoldable pub findWords : ℕ → ℕ → List ℕ → ℕ
-findWords x y [] = zero
-findWords x y (a ∷ []) = zero
-findWords x y (a ∷ b ∷ t) = cond (eqb x a && eqb y b) zero (suc (findWords x y t))
-
 -- every rule of K fits its words
 abbrev pub AllEncode : List Rule → Type 0
-AllEncode [] = Unit {0}
-AllEncode (x ∷ K) = Encodes x × AllEncode K
+AllEncode K = (r : ℕ) → r < length K → Encodes (getD K r (symbol 0))
 
--- numbering pairs of words is numbering rules, encoded
-pub find-encoded : (o : Order) (x : Rule) (K : List Rule) → Encodes x → AllEncode K
-    → findWords (firstWord o x) (secondWord 0 x) (words o 0 K) ≡ find x K
-unfolding words findWords find
-find-encoded o x [] h k = refl
-find-encoded o x (y ∷ K) h k =
-    rw (words-cons o 0 y K)
-    (ap₂ {C = ℕ} (λ b n. cond b zero (suc n))
-    (bool-ext (eqb (firstWord o x) (firstWord o y) && eqb (secondWord 0 x) (secondWord 0 y)) (sameRule x y)
-    (λ e. rule-same x y (encoded-once o x y h (k .0)
-    (eqb-true (firstWord o x) (firstWord o y) (and-left (eqb (firstWord o x) (firstWord o y)) (eqb (secondWord 0 x) (secondWord 0 y)) e))
-    (eqb-true (secondWord 0 x) (secondWord 0 y) (and-right (eqb (firstWord o x) (firstWord o y)) (eqb (secondWord 0 x) (secondWord 0 y)) e))))
-    (λ e. let q = same-rule x y e in and-intro (eqb (firstWord o x) (firstWord o y)) (eqb (secondWord 0 x) (secondWord 0 y))
-    (eq-eqb (firstWord o x) (firstWord o y) (ap (firstWord o) q)) (eq-eqb (secondWord 0 x) (secondWord 0 y) (ap (secondWord 0) q))))
-    (find-encoded o x K h (k .1)))
+-- numbering pairs of words is numbering rules, encoded: where a list t begins with the words of the rules K, looking the words of a
+-- rule up in it finds the rule's number
+pub find-encoded : (o : Order) (t : List ℕ) (x : Rule) (K : List Rule) → Encodes x → AllEncode K
+    → ((i : ℕ) → i < 2 * length K → getD t i 0 ≡ getD (words o 0 K) i 0)
+    → newest (hasWords t (firstWord o x) (secondWord 0 x)) (length K) ≡ find x K
+unfolding find isRule hasWords
+find-encoded o t x K h k front =
+    newest-ext (hasWords t (firstWord o x) (secondWord 0 x)) (λ r. sameRule x (getD K r (symbol 0))) (length K) same-at
+  where
+    same-at : (r : ℕ) → r < length K → hasWords t (firstWord o x) (secondWord 0 x) r ≡ sameRule x (getD K r (symbol 0))
+    same-at r l =
+        let y = getD K r (symbol 0) in
+        let first : getD t (2 * r) 0 ≡ firstWord o y = front (2 * r) (omega arith) ∙ words-first o 0 K r l in
+        let second : getD t (2 * r + 1) 0 ≡ secondWord 0 y
+        = front (2 * r + 1) (omega arith) ∙ words-second o 0 K r l ∙ ap (λ (c : ℕ). secondWord c y) (beside-none r) in
+        bool-ext (hasWords t (firstWord o x) (secondWord 0 x) r) (sameRule x y)
+        (λ e. rule-same x y (encoded-once o x y h (k r l)
+        (sym (eqb-true (getD t (2 * r) 0) (firstWord o x) (and-left (eqb (getD t (2 * r) 0) (firstWord o x)) (eqb (getD t (2 * r + 1) 0) (secondWord 0 x)) e)) ∙ first)
+        (sym (eqb-true (getD t (2 * r + 1) 0) (secondWord 0 x) (and-right (eqb (getD t (2 * r) 0) (firstWord o x)) (eqb (getD t (2 * r + 1) 0) (secondWord 0 x)) e)) ∙ second)))
+        (λ e. let q = same-rule x y e in and-intro (eqb (getD t (2 * r) 0) (firstWord o x)) (eqb (getD t (2 * r + 1) 0) (secondWord 0 x))
+        (eq-eqb (getD t (2 * r) 0) (firstWord o x) (first ∙ sym (ap (firstWord o) q))) (eq-eqb (getD t (2 * r + 1) 0) (secondWord 0 x) (second ∙ sym (ap (secondWord 0) q))))

@@ -16,7 +16,7 @@ use Rattle.definitions.specs.Grammar.{leftOf, rightOf}
 use Rattle.lists.specs.Bools.{and-left, and-right, and-intro, not-so}
 use Rattle.lists.specs.Numbers.{split-le, least-is}
 use Rattle.lists.specs.Lists.{empty, Overlap, within, across, overlap, split-same-left, split-same-right}
-use Rattle.lyndon.specs.Lexical.{Lt, Dif, Compare, equal, prefix, extends, smaller, greater, compared, dif-append, dif-lt, lt-cases, lt-trans, lt-asym, lt-prefix, lt-append, lt-cancel, total}
+use Rattle.lyndon.specs.Lexical.{Lt, Compare, equal, prefix, extends, smaller, greater, compared, dif-append, dif-lt, lt-trans, lt-asym, lt-prefix, lt-cancel, total}
 use Rattle.lyndon.specs.Words.{Lyndon, lyndon-is, is-lyndon, lt-joined}
 
 -- v is the smallest proper suffix of u ++ v

@@ -174,6 +174,11 @@ longest-most s p q e l = go (forest s) (forest-spells s) (forest-good s)
     go [] x g = absurd (omega (arith, l .filled, simp length-append at (ap length (x ∙ e))))
     go (t ∷ f) x g = first-longest t f p q g (x ∙ e) l
 
+-- that length at each place of s
+unfoldable pub longests : List ℕ → List ℕ
+longests [] = []
+longests (a ∷ s) = longest (a ∷ s) ∷ longests s
+
 -- the forest of a Lyndon word is its Lyndon tree
 pub forest-one : (w : List ℕ) → Lyndon w → forest w ≡ lyndonTree w ∷ []
 unfolding spells

@@ -13,7 +13,7 @@ use borrow.Author.Tests.{ltb-true, lt-ltb, eqb-true, eq-eqb}
 use Rattle.definitions.specs.Words.{below, begins}
 use Rattle.definitions.specs.Occurrences.{occurrences, liveCuts, straddles, straddling, cutIn, cutAt}
 use Rattle.lists.specs.Bools.{bool-ext, not-so, and-left, and-right, and-intro, and-same, or-left, or-right, or-cases}
-use Rattle.lists.specs.Numbers.{Rising, rising-most, below-in, below-lt, below-rising, below-ext, below-stop, below-append, below-split}
+use Rattle.lists.specs.Numbers.{rising-most, below-in, below-lt, below-rising, below-ext, below-stop, below-append, below-split}
 use Rattle.lists.specs.Strings.{begins-rest, rest-begins}
 use Rattle.lyndon.specs.Factorization.{Std}
 use Rattle.lyndon.specs.Cuts.{Live, live-cut, Straddle, straddle-view, straddle-live, straddle-once}

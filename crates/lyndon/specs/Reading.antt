@@ -14,7 +14,7 @@ use Rattle.definitions.specs.declared.Order.{Order}
 use Rattle.definitions.specs.Words.{least, same}
 use Rattle.definitions.specs.Grammar.{order, rulesOf}
 use Rattle.definitions.specs.Table.{byteOf, marked, numberOf, words, tableOf, badWord, strings, ruleString, spelled, textOf, chairOf, isDrive, isChair, isTable}
-use Rattle.definitions.specs.Services.{Check, tableLength, hasBadWord, notATable}
+use Rattle.definitions.specs.Services.{tableLength, hasBadWord, notATable}
 use Rattle.lists.specs.Bools.{and-left, and-right, and-intro}
 use Rattle.lists.specs.Strings.{same-eq, same-self}
 use Rattle.lyndon.specs.Words.{Lyndon}

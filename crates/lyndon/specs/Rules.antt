@@ -4,20 +4,21 @@ use mathlib.Core.Path.{_≡_, refl, sym, _∙_, ap, ap₂}
 use mathlib.Core.Bool.{Bool, true, false, cond, _&&_, false≢true}
 use mathlib.Core.Logic.{⊎-elim}
 use mathlib.Core.List.{List, [], _∷_, _++_, map, map-append, List·Memᴰ as In, List·Memᴰ·head as here, List·Memᴰ·tail as there, List·Memᴰ·not-nil as in-nil, List·Memᴰ·cases-cons as in-cons}
-use Prim.Native.Nat.{ℕ, zero, suc, _≤_, _<_}
+use Prim.Native.Nat.{ℕ, _≤_, _<_}
 use native.Mathlib.Omega.{arith}
-use lib.ListN.{length, getD, length-append, length-map}
+use lib.ListN.{length, getD, length-append, length-map, List·getD-map}
 use lib.Dec.{ltb, eqb}
 use borrow.Author.Tests.{lt-ltb, le-ltb, eqb-true, eq-eqb}
 use Rattle.definitions.specs.Words.{same}
 use Rattle.definitions.specs.Grammar.{Tree, leaf, node, word, lyndonTree, leftOf, rightOf, indexOf, meet, visit, order, Rule, symbol, pair, ruleOf, rulesOf}
-use Rattle.lists.specs.Bools.{either, contra, bool-ext, and-left, and-right, and-intro}
+use Rattle.lists.specs.Bools.{either, contra, not-so, and-left, and-right, and-intro}
 use Rattle.lists.specs.Numbers.{split-le}
-use Rattle.lists.specs.Strings.{same-eq, eq-same}
+use Rattle.lists.specs.Newest.{newest, newest-only, newest-none}
+use Rattle.lists.specs.Strings.{eq-same}
 use Rattle.lyndon.specs.Words.{Lyndon}
 use Rattle.lyndon.specs.Factorization.{std-left, std-right, std-parts}
 use Rattle.lyndon.specs.Trees.{LyndonTree, word-filled, tree-of}
-use Rattle.lyndon.specs.Numbering.{Has, Numbered, Extends, Fits, index-found, index-later, index-at, meet-old, meet-new, meet-index, extends-has, extends-index, visit-extends, visit-has, visit-numbered, none-numbered, node-fits, parts-fit}
+use Rattle.lyndon.specs.Numbering.{Has, Numbered, Extends, Fits, index-found, index-later, index-le, index-at, meet-old, meet-new, meet-index, extends-has, extends-index, visit-extends, visit-has, visit-numbered, none-numbered, node-fits, parts-fit}
 
 -- ---- the model: a list of rules, and where a rule stands in it
 
@@ -27,10 +28,13 @@ sameRule (symbol a) (pair k l) = false
 sameRule (pair i j) (symbol b) = false
 sameRule (pair i j) (pair k l) = eqb i k && eqb j l
 
--- where the rule x first stands; the list's length if nowhere, which is its number once it is added
+-- whether rule r of K is x
+unfoldable pub isRule : List Rule → Rule → ℕ → Bool
+isRule K x r = sameRule x (getD K r (symbol 0))
+
+-- the number of the rule x: the newest that it is; if none, the number of rules, which is its number once it is added
 unfoldable pub find : Rule → List Rule → ℕ
-find x [] = zero
-find x (y ∷ K) = cond (sameRule x y) zero (suc (find x K))
+find x K = newest (isRule K x) (length K)
 
 -- the rules, and x if it is new
 unfoldable pub intern : List Rule → Rule → List Rule
@@ -143,27 +147,41 @@ rules-append S x n f =
     (map-same (ruleOf (S ++ (x ∷ []))) (ruleOf S) S (λ y i. rule-extends S (S ++ (x ∷ [])) y (x ∷ [], refl) (parts-fit S n y (has-in y S i))))
     (rule-extends S (S ++ (x ∷ [])) x (x ∷ [], refl) f)
 
--- where a rule stands is where its string stands
-find-index : (f : List ℕ → Rule) (x : List ℕ) (S : List (List ℕ)) → ((y : List ℕ) → In y S → f x ≡ f y → x ≡ y)
-    → find (f x) (map f S) ≡ indexOf x S
-unfolding find indexOf
-find-index f x [] h = refl
-find-index f x (y ∷ S) h =
-    ap₂ {C = ℕ} (λ b n. cond b zero (suc n))
-    (bool-ext (sameRule (f x) (f y)) (same x y)
-    (λ e. eq-same x y (h y (here refl) (same-rule (f x) (f y) e)))
-    (λ e. rule-same (f x) (f y) (ap f (same-eq x y e))))
-    (find-index f x S (λ z i. h z (there i)))
-
-pub find-rule : (S : List (List ℕ)) (x : List ℕ) → Numbered S → 0 < length x → Fits S x → find (ruleOf S x) (rulesFor S) ≡ indexOf x S
-unfolding rulesFor
-find-rule S x n hx f =
-    find-index (ruleOf S) x S
-    (λ y i e. let k = has-in y S i in rule-injective S x y hx (n .filled y k) f (parts-fit S n y k) e)
-
 pub rules-length : (S : List (List ℕ)) → length (rulesFor S) ≡ length S
 unfolding rulesFor
 rules-length S = length-map S (ruleOf S)
+
+pub rule-at : (S : List (List ℕ)) (r : ℕ) → getD (rulesFor S) r (symbol 0) ≡ ruleOf S (getD S r [])
+unfolding rulesFor
+rule-at S r =
+    ap (λ (d : Rule). getD (map (ruleOf S) S) r d) (sym (rule-symbol S [] (omega arith))) ∙ List·getD-map (ruleOf S) S r []
+
+-- a rule's number is its string's
+pub find-rule : (S : List (List ℕ)) (x : List ℕ) → Numbered S → 0 < length x → Fits S x → find (ruleOf S x) (rulesFor S) ≡ indexOf x S
+unfolding find isRule
+find-rule S x n hx f = ap (newest test) (rules-length S) ∙ split-le (length S) (indexOf x S) new old
+  where
+    test : ℕ → Bool
+    test r = sameRule (ruleOf S x) (getD (rulesFor S) r (symbol 0))
+
+    -- only the number of x passes
+    only : (r : ℕ) → r < length S → test r ≡ true → x ≡ getD S r []
+    only r l e =
+        let has : Has S (getD S r []) = omega (arith, n .once r l) in
+        rule-injective S x (getD S r []) hx (n .filled (getD S r []) has) f (parts-fit S n (getD S r []) has)
+        (same-rule (ruleOf S x) (getD (rulesFor S) r (symbol 0)) e ∙ rule-at S r)
+
+    old : Has S x → newest test (length S) ≡ indexOf x S
+    old h =
+        newest-only test (length S) (indexOf x S) h
+        (rule-same (ruleOf S x) (getD (rulesFor S) (indexOf x S) (symbol 0)) (sym (rule-at S (indexOf x S) ∙ ap (ruleOf S) (index-at x S h))))
+        (λ r l e. sym (n .once r l) ∙ ap (λ (y : List ℕ). indexOf y S) (sym (only r l e)))
+
+    new : length S ≤ indexOf x S → newest test (length S) ≡ indexOf x S
+    new h =
+        newest-none test (length S)
+        (λ r l. not-so (test r) (λ e. omega (arith, n .once r l, ap (λ (y : List ℕ). indexOf y S) (only r l e))))
+        ∙ omega (arith, index-le x S)
 
 pub intern-old : (K : List Rule) (x : Rule) → find x K < length K → intern K x ≡ K
 unfolding intern

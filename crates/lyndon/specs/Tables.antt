@@ -1,23 +1,22 @@
 -- The table of numbered strings: what stands at each rule (`entry`), no word is bad (`no-bad-word`), and it spells these strings
 -- (`strings-back`).
-use mathlib.Core.Path.{_≡_, refl, sym, _∙_, ap, ap₂, subst}
-use mathlib.Core.Bool.{false, cond, _&&_}
-use mathlib.Core.List.{List, [], _∷_, map, List·Memᴰ as In, List·Memᴰ·head as here}
+use mathlib.Core.Path.{_≡_, refl, sym, _∙_, ap, subst}
+use mathlib.Core.Bool.{false, cond}
+use mathlib.Core.List.{List, [], _∷_, List·Memᴰ as In, List·Memᴰ·head as here}
 use Prim.Native.Nat.{ℕ, zero, suc, _+_, _-_, _*_, _/_, _%_, _^_, _≤_, _<_}
 use native.Mathlib.Omega.{arith}
-use lib.ListN.{length, take, getD, List·getD-map}
+use lib.ListN.{length, take, getD}
 use lib.Seq.{take-suc, getD-take, take-length}
 use lib.Dec.{eqb}
-use borrow.Author.Tests.{lt-ltb, le-leb, eqb-true, eq-eqb, ne-eqb}
+use borrow.Author.Tests.{lt-ltb, le-leb, eq-eqb, ne-eqb}
 use Rattle.definitions.specs.declared.Order.{Order}
 use Rattle.definitions.specs.Words.{least}
-use Rattle.definitions.specs.Grammar.{leftOf, rightOf, indexOf, Rule, symbol, pair, ruleOf}
-use Rattle.definitions.specs.Table.{numberOfRank, rankOfNumber, wordOf, kindOf, numberOf, ruleWords, words, badFirst, badSecond, badWord, stringOf, strings}
-use Rattle.lists.specs.Bools.{bool-ext, and-left, and-right, and-intro}
+use Rattle.definitions.specs.Grammar.{leftOf, rightOf, indexOf, symbol, ruleOf}
+use Rattle.definitions.specs.Table.{numberOfRank, wordOf, words, badFirst, badSecond, badWord, stringOf, strings}
 use Rattle.lists.specs.Numbers.{split-le, least-none}
 use Rattle.lyndon.specs.Factorization.{std-parts}
 use Rattle.lyndon.specs.Numbering.{Has, Numbered, index-at}
-use Rattle.lyndon.specs.Rules.{sameRule, same-rule, rule-same, find, rulesFor, rules-length, rule-symbol, rule-pair}
+use Rattle.lyndon.specs.Rules.{rulesFor, rules-length, rule-at, rule-symbol, rule-pair}
 use Rattle.lyndon.specs.Ranks.{number-range, rank-of-number}
 use Rattle.lyndon.specs.Encoding.{firstWord, secondWord, beside, word-kind, word-number, words-first, words-second, words-length}
 
@@ -39,11 +38,6 @@ pub data Entry (o : Order) (S : List (List ℕ)) (c r : ℕ) : Type 0 where
       → getD (words o c (rulesFor S)) (2 * r) 0 ≡ wordOf 1 i
       → getD (words o c (rulesFor S)) (2 * r + 1) 0 ≡ wordOf 2 j
       → Entry o S c r
-
-rule-at : (S : List (List ℕ)) (r : ℕ) → getD (rulesFor S) r (symbol 0) ≡ ruleOf S (getD S r [])
-unfolding rulesFor
-rule-at S r =
-    ap (λ (d : Rule). getD (map (ruleOf S) S) r d) (sym (rule-symbol S [] (omega arith))) ∙ List·getD-map (ruleOf S) S r []
 
 pub entry : (o : Order) (S : List (List ℕ)) (c r : ℕ) → Storable S c → r < length S → Entry o S c r
 unfolding firstWord secondWord

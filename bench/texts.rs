@@ -1,0 +1,74 @@
+//! Eight families of texts.
+
+/// A small generator of numbers, the same in every run.
+struct Numbers(u64);
+
+impl Numbers {
+    fn next(&mut self, below: u64) -> u64 {
+        self.0 ^= self.0 << 13;
+        self.0 ^= self.0 >> 7;
+        self.0 ^= self.0 << 17;
+        (self.0 >> 20) % below
+    }
+}
+
+pub const FAMILIES: [&str; 8] = [
+    "random bytes",
+    "two symbols",
+    "rests and ramps",
+    "equal samples",
+    "a^(n-1) b",
+    "(a^k b)^2",
+    "(a^31 b)^j",
+    "Fibonacci",
+];
+
+fn repeated(unit: &[u8], n: usize) -> Vec<u8> {
+    unit.iter().cycle().take(n).copied().collect()
+}
+
+/// A run of a, then b.
+fn run(k: usize) -> Vec<u8> {
+    let mut s = vec![b'a'; k];
+    s.push(b'b');
+    s
+}
+
+/// Rests at the centre of up to 60 samples, between ramps of up to 20 steps out and back.
+fn ramps(n: usize, numbers: &mut Numbers) -> Vec<u8> {
+    let mut s = Vec::new();
+    while s.len() < n {
+        s.extend(vec![128u8; numbers.next(60) as usize]);
+        let k = numbers.next(20) as u8;
+        s.extend((0..k).map(|i| 128 + i));
+        s.extend((0..k).rev().map(|i| 128 + i));
+    }
+    s.truncate(n);
+    s
+}
+
+fn fibonacci(n: usize) -> Vec<u8> {
+    let (mut a, mut b) = (b"a".to_vec(), b"ab".to_vec());
+    while b.len() < n {
+        let next = [b.clone(), a].concat();
+        a = b;
+        b = next;
+    }
+    b.truncate(n);
+    b
+}
+
+/// The text of n samples of a family.
+pub fn text(family: usize, n: usize) -> Vec<u8> {
+    let mut numbers = Numbers(88172645463325252);
+    match family {
+        0 => (0..n).map(|_| numbers.next(256) as u8).collect(),
+        1 => (0..n).map(|_| numbers.next(2) as u8).collect(),
+        2 => ramps(n, &mut numbers),
+        3 => vec![b'a'; n],
+        4 => run(n - 1),
+        5 => repeated(&run((n - 3) / 2), n),
+        6 => repeated(&run(31), n),
+        _ => fibonacci(n),
+    }
+}

@@ -1,0 +1,50 @@
+-- Comparing two strings symbol by symbol: while symbols agree, the rest decides; at a difference it does, and at an end the lengths do.
+use mathlib.Core.Path.{_≡_, refl, _∙_}
+use mathlib.Core.Bool.{Bool, true, false, _&&_, _||_}
+use mathlib.Core.List.{List, [], _∷_}
+use Prim.Native.Nat.{ℕ, suc, _+_, _≤_, _<_, min}
+use native.Mathlib.Omega.{arith}
+use native.Mathlib.Nat.{le-refl}
+use native.Mathlib.Numerals.{add-one}
+use lib.ListN.{length, drop, getD, drop-of-length-le}
+use lib.Seq.{drop-cons}
+use lib.Dec.{ltb, eqb}
+use borrow.Author.Tests.{lt-ltb, le-ltb, eq-eqb, ne-eqb}
+use Rattle.definitions.specs.Words.{lexlt}
+use Rattle.lists.specs.Numbers.{split-le}
+
+module _ (x y : List ℕ) (i : ℕ) (hx : i < length x) (hy : i < length y) where
+  heads : lexlt (drop i x) (drop i y) ≡ ltb (getD x i 0) (getD y i 0) || (eqb (getD x i 0) (getD y i 0) && lexlt (drop (suc i) x) (drop (suc i) y))
+  unfolding lexlt
+  heads = rw (drop-cons x i 0, drop-cons y i 0)
+
+  pub agree : getD x i 0 ≡ getD y i 0 → lexlt (drop i x) (drop i y) ≡ lexlt (drop (i + 1) x) (drop (i + 1) y)
+  agree e =
+      heads
+      ∙ rw (le-ltb (getD x i 0) (getD y i 0) (omega arith), eq-eqb (getD x i 0) (getD y i 0) e, add-one)
+
+  pub differ : (getD x i 0 ≡ getD y i 0 → ⊥) → lexlt (drop i x) (drop i y) ≡ ltb (getD x i 0) (getD y i 0)
+  differ n = heads ∙ rw (ne-eqb (getD x i 0) (getD y i 0) n) (none (ltb (getD x i 0) (getD y i 0)))
+    where
+      none : (b : Bool) → b || false ≡ b
+      none true = refl
+      none false = refl
+
+-- at an end of either the shorter is smaller
+pub ended : (x y : List ℕ) (i : ℕ) → i ≡ min (length x) (length y) → lexlt (drop i x) (drop i y) ≡ ltb (length x) (length y)
+unfolding lexlt
+ended x y i e = split-le (length y) (length x) second first
+  where
+    nothing : (z : List ℕ) → lexlt z [] ≡ false
+    nothing [] = refl
+    nothing (a ∷ z) = refl
+
+    first : length x < length y → lexlt (drop i x) (drop i y) ≡ ltb (length x) (length y)
+    first h =
+        let k : i ≡ length x = omega arith in
+        rw (k, drop-of-length-le x (le-refl (length x)), drop-cons y (length x) 0, lt-ltb (length x) (length y) h)
+
+    second : length y ≤ length x → lexlt (drop i x) (drop i y) ≡ ltb (length x) (length y)
+    second h =
+        let k : i ≡ length y = omega arith in
+        rw (k, drop-of-length-le y (le-refl (length y)), le-ltb (length x) (length y) h) (nothing (drop (length y) x))

@@ -1,0 +1,4 @@
+pub mod Compare
+pub mod Place
+pub mod Merging
+pub mod Areas

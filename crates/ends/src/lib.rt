@@ -1,0 +1,118 @@
+// The marked text as ranks, the lengths of its longest Lyndon words, and the joins that close behind each symbol, in the areas of
+// the work slice.
+//
+// From right to left, the word at a place is joined with the words behind it while it is smaller than the next; one length a place
+// stands for the stack of words. Comparing costs at most about n * n / 8 symbol steps, reached by (a^k b)^2.
+pub mod layout;
+
+use definitions::Order;
+use layout::CLOSE;
+use layout::FIRST;
+use slices::put;
+use slices::wide;
+ghost use mathlib.Core.Path.{_≡_};
+ghost use mathlib.Core.List.{map};
+ghost use Prim.Native.Nat.{suc, _+_, _-_, _≤_, _<_};
+ghost use lib.ListN.{length, getD, set, drop};
+ghost use Rattle.definitions.specs.Words.{lexlt, placed};
+ghost use Rattle.definitions.specs.Table.{rankOf, marked};
+ghost use Rattle.lists.specs.Parts.{part};
+ghost use Rattle.lyndon.specs.Forest.{longest};
+ghost use Rattle.ends.specs.Areas.{Room, Ended, Merged};
+
+// Places the marked text at the front of the work slice.
+pub fn place_text(order: Order, text: &[u8], work: &mut [u32])
+    requires { ⌜ length (now text) < length (now work) ⌝ }
+    ensures { λ _. ⌜ now (work .exit) ≡ placed (marked order (now (text .entry))) (now (work .entry)) ⌝ }
+{
+    let mut i = 0;
+    while i < text.len() {
+        work[1 + i] = rank_of(order, text[i]);
+        i += 1;
+    }
+    work[0] = 0;
+}
+
+// The rank of a byte in an order of samples.
+pub fn rank_of(order: Order, byte: u8) -> u32
+    ensures { λ r. ⌜ r ≡ rankOf order byte ⌝ }
+{
+    match order {
+        Order::Unsigned => byte as u32 + 1,
+    }
+}
+
+// The lengths of the longest Lyndon words of the n ranks at the front, and the closings.
+pub fn ends(work: &mut [u32], n: usize)
+    requires { ⌜ (n ≤ 2048) × (16384 ≤ length (now work)) ⌝ }
+    ensures { λ _. ⌜ Ended (part 0 n (now (work .entry))) 0 (now (work .exit)) ⌝ }
+{
+    let mut i = n;
+    while 0 < i {
+        i -= 1;
+        end_at(work, n, i);
+    }
+}
+
+// The same at one place, once it is done behind it.
+fn end_at(work: &mut [u32], n: usize, i: usize)
+    requires { ⌜ (n ≤ 2048) × (16384 ≤ length (now work)) × (i < n) × Ended (part 0 n (now work)) (suc i) (now work) ⌝ }
+    ensures { λ _. ⌜ Ended (part 0 n (now (work .entry))) i (now (work .exit)) ⌝ }
+{
+    put(work, CLOSE + i, 0);
+    let j = merge(work, n, i);
+    put(work, FIRST + i, (j - i) as u32);
+}
+
+// Joins the word at i with the words behind it while it is smaller than the next. Answers where it ends.
+fn merge(work: &mut [u32], n: usize, i: usize) -> usize
+    requires { ⌜ (n ≤ 2048) × (16384 ≤ length (now work)) × (i < n) × Ended (part 0 n (now work)) (suc i) (now work) × (getD (now work) (4096 + i) 0 ≡ 0) ⌝ }
+    ensures { λ r. ⌜ (r ≡ i + longest (drop i (part 0 n (now (work .entry))))) × (r ≤ n) × Merged (part 0 n (now (work .entry))) i (now (work .exit)) ⌝ }
+{
+    let mut j = i + 1;
+    while j < n {
+        let k = wide(work[FIRST + j]);
+        if !before(&work[0..n], i, j, k) {
+            return j;
+        }
+        bump(work, CLOSE + j + k - 1);
+        j += k;
+    }
+    j
+}
+
+// Whether the word from i up to j is smaller than that of k symbols from j on.
+fn before(s: &[u32], i: usize, j: usize, k: usize) -> bool
+    requires { ⌜ (i ≤ j) × (j + k ≤ length (now s)) ⌝ }
+    ensures { λ r. ⌜ r ≡ lexlt (part i (j - i) (now (s .entry))) (part j k (now (s .entry))) ⌝ }
+{
+    let e = j + k;
+    smaller(&s[i..j], &s[j..e])
+}
+
+// Whether the string x is smaller than the string y.
+fn smaller<'a>(x: &'a [u32], y: &'a [u32]) -> bool
+    ensures { λ r. ⌜ r ≡ lexlt (now (x .entry)) (now (y .entry)) ⌝ }
+{
+    let m = x.len();
+    let n = y.len();
+    let short = if m < n { m } else { n };
+    let mut i = 0;
+    while i < short {
+        let a = x[i];
+        let b = y[i];
+        if a != b {
+            return a < b;
+        }
+        i += 1;
+    }
+    m < n
+}
+
+// Adds one.
+fn bump(work: &mut [u32], at: usize)
+    requires { ⌜ (at < length (now work)) × (getD (now work) at 0 < 4096) ⌝ }
+    ensures { λ _. ⌜ now (work .exit) ≡ set (now (work .entry)) at (getD (now (work .entry)) at 0 + 1) ⌝ }
+{
+    work[at] = work[at] + 1;
+}

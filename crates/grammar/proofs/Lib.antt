@@ -1,0 +1,5 @@
+pub mod Adding
+pub mod Stacks
+pub mod Pushing
+pub mod Stepping
+pub mod Tabling

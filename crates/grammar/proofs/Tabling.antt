@@ -1,0 +1,210 @@
+-- From a marked text to its table: with the ends of its Lyndon words known, its rules can be numbered (`ended-numbers`), with
+-- cleared buckets too (`cleared-numbers`); and with the chair number stored beside the mark they are its table (`tabled`).
+use mathlib.Core.Path.{_≡_, refl, sym, _∙_, ap, ap₂, subst}
+use mathlib.Core.List.{List, [], _∷_, _++_}
+use Prim.Native.Nat.{ℕ, _+_, _*_, _≤_, _<_}
+use native.Mathlib.Omega.{arith}
+use native.Mathlib.Nat.{zero-add, sub-zero}
+use native.Mathlib.Numerals.{add-one}
+use lib.ListN.{length, take, drop, getD, set, replicate, length-take, length-drop, length-append, length-replicate, length-set, getD-replicate, List·getD-append}
+use lib.Seq.{take-append-seam, getD-append-add, length-take-le, take-take}
+use Rattle.definitions.specs.declared.Order.{Order}
+use Rattle.definitions.specs.Grammar.{order, Rule, symbol, rulesOf}
+use Rattle.definitions.specs.Table.{marked, words, wordOf, tableOf}
+use Rattle.definitions.specs.Words.{placed}
+use Rattle.lists.specs.Lists.{placed-length, placed-front}
+use Rattle.lists.specs.Numbers.{split-le}
+use Rattle.lists.specs.Members.{at-in}
+use Rattle.lists.specs.Parts.{part, part-length, part-at, part-set, part-set-behind, part-agree}
+use Rattle.lyndon.specs.Forest.{forest, longests}
+use Rattle.lyndon.specs.Ranks.{slice-bytes, marked-lyndon, marked-symbols, marked-length}
+use Rattle.lyndon.specs.Sequence.{order-filled}
+use Rattle.lyndon.specs.Rules.{rulesFor, rules-length, rule-at, rule-symbol}
+use Rattle.lyndon.specs.Encoding.{firstWord, secondWord, words-cons}
+use Rattle.lyndon.specs.Closings.{start, run, closingsOf, Enough, forest-enough, run-rules}
+use Rattle.lyndon.specs.Reading.{Stored, storable, order-most, table-words, table-length}
+use Rattle.ends.specs.Areas.{Ended}
+use Rattle.grammar.specs.Areas.{Rules, numbered, Numbers, Below}
+use Rattle.grammar.specs.Loaded.{Marked, Loaded}
+use Rattle.grammar.proofs.Stepping.{below-at}
+
+-- ---- cleared buckets
+
+-- the slice w with 1,024 words from 8,192 on replaced
+abbrev replaced : List ℕ → List ℕ → List ℕ
+replaced w l = take 8192 w ++ (l ++ drop 1024 (drop 8192 w))
+
+module _ (w l : List ℕ) (long : 16384 ≤ length w) (e : l ≡ replicate (length (take 1024 (drop 8192 w))) 0) where
+  size : length (take 1024 (drop 8192 w)) ≡ 1024
+  size = simp (length-take, length-drop) (omega arith)
+
+  front : length (take 8192 w) ≡ 8192
+  front = length-take-le 8192 w (omega arith)
+
+  zeros : l ≡ replicate 1024 0
+  zeros = e ∙ ap (λ (n : ℕ). replicate n 0) size
+
+  pub cleared-below : take 8192 (take 8192 w ++ (l ++ drop 1024 (drop 8192 w))) ≡ take 8192 w
+  cleared-below = ap (λ (n : ℕ). take n (replaced w l)) (sym front) ∙ take-append-seam (take 8192 w) (l ++ drop 1024 (drop 8192 w))
+
+  pub cleared-stays : Below w (take 8192 w ++ (l ++ drop 1024 (drop 8192 w)))
+  cleared-stays = sym (take-take 6144 8192 (replaced w l) (omega arith)) ∙ ap (take 6144) cleared-below ∙ take-take 6144 8192 w (omega arith)
+
+  pub cleared-length : length (take 8192 w ++ (l ++ drop 1024 (drop 8192 w))) ≡ length w
+  cleared-length = simp (length-append, length-drop, front) (omega (arith, ap length zeros, length-replicate {A = ℕ} 1024 0))
+
+  pub cleared-buckets : (b : ℕ) → b < 1024 → getD (take 8192 w ++ (l ++ drop 1024 (drop 8192 w))) (8192 + b) 0 ≡ 0
+  cleared-buckets b h =
+      ap (λ (n : ℕ). getD (replaced w l) (n + b) 0) (sym front)
+      ∙ getD-append-add (take 8192 w) (l ++ drop 1024 (drop 8192 w)) b 0
+      ∙ List·getD-append l (drop 1024 (drop 8192 w)) 0 b (omega (arith, ap length zeros, length-replicate {A = ℕ} 1024 0))
+      ∙ ap (λ (x : List ℕ). getD x b 0) zeros
+      ∙ getD-replicate 1024 b 0 0 h
+
+  -- what is numbered lies below
+  pub cleared-numbered : (n : ℕ) → n ≤ 2048 → numbered n (take 8192 w ++ (l ++ drop 1024 (drop 8192 w))) ≡ numbered n w
+  unfolding numbered
+  cleared-numbered n h =
+      ap₂ {C = List Rule} (λ x y. run start x y .rules)
+      (part-agree 8192 0 n w (replaced w l) cleared-below (omega arith))
+      (part-agree 8192 4096 n w (replaced w l) cleared-below (omega arith))
+
+  pub cleared-numbers : (n : ℕ) → Numbers n w → Numbers n (take 8192 w ++ (l ++ drop 1024 (drop 8192 w)))
+  cleared-numbers n k =
+      record {
+        short = k .short;
+        long = omega (arith, cleared-length);
+        ranks = λ i h. rw (below-at w (replaced w l) i (omega (arith, k .short)) cleared-stays) (k .ranks i h);
+        enough = subst (Enough 0) (sym (part-agree 8192 4096 n w (replaced w l) cleared-below (omega (arith, k .short)))) (k .enough);
+        room = rw (cleared-numbered n (k .short)) (k .room);
+      }
+
+-- ---- from the ends to the rules
+
+module _ (o : Order) (n chair : ℕ) (w₀ w : List ℕ) (m : Marked o n chair w₀) (e : Ended (part 0 n w₀) 0 w) (same : length w ≡ length w₀) where
+  abbrev text : List ℕ
+  text = m .text
+
+  marks : List ℕ
+  marks = marked o text
+
+  area : length (part 0 n w₀) ≡ n
+  area = part-length 0 n w₀ (omega (arith, m .long, m .size, m .stored .short))
+
+  pub ended-text : part 0 n w ≡ marked o (m .text)
+  ended-text = ap (λ (k : ℕ). part 0 k w) (sym area) ∙ e .text ∙ m .front
+
+  pub ended-first : part 2048 n w ≡ longests (marked o (m .text))
+  ended-first = ap (λ (k : ℕ). part 2048 k w) (sym area ∙ sym (sub-zero (length (part 0 n w₀)))) ∙ e .first ∙ ap longests (m .front)
+
+  ended-close : part 4096 n w ≡ closingsOf (forest (marked o (m .text)))
+  ended-close =
+      ap (λ (k : ℕ). part 4096 k w) (sym area ∙ sym (sub-zero (length (part 0 n w₀)))) ∙ e .close ∙ ap (λ (s : List ℕ). closingsOf (forest s)) (m .front)
+
+  pub ended-numbered : numbered n w ≡ rulesOf (marked o (m .text))
+  unfolding numbered
+  ended-numbered =
+      ap₂ {C = List Rule} (λ x y. run start x y .rules) ended-text ended-close ∙ run-rules (marked o (m .text)) (marked-lyndon o (m .text) (m .stored .bytes))
+
+  pub rules-size : length (rulesOf (marked o (m .text))) ≡ length (order (marked o (m .text)))
+  unfolding rulesOf rulesFor
+  rules-size = rules-length (order (marked o (m .text)))
+
+  pub ended-numbers : Numbers n w
+  ended-numbers =
+      record {
+        short = omega (arith, m .size, m .stored .short);
+        long = omega (arith, m .long);
+        ranks = λ i h. subst (λ (x : ℕ). x < 257) (rank-at i h) (marked-symbols o (m .text) (m .stored .bytes) (getD (marked o (m .text)) i 0) (at-in (marked o (m .text)) i (omega (arith, m .size, marked-length o (m .text)))));
+        enough = subst (Enough 0) (sym ended-close) (forest-enough 0 (forest (marked o (m .text))));
+        room = omega (arith, ap length ended-numbered, rules-size, order-most o (m .text) chair (m .stored));
+      }
+    where
+      rank-at : (i : ℕ) → i < n → getD (marked o (m .text)) i 0 ≡ getD w i 0
+      rank-at i h = ap (λ (l : List ℕ). getD l i 0) (sym ended-text) ∙ part-at 0 n w i 0 h ∙ ap (λ (k : ℕ). getD w k 0) (zero-add i)
+
+  -- ---- and the chair number
+
+  -- the first rule is the mark's, so the chair number stands in word 1
+  words-chair : (K : List Rule) (c a : ℕ) → 0 < length K → getD K 0 (symbol 0) ≡ symbol a → words o c K ≡ set (words o 0 K) 1 (wordOf 3 c)
+  unfolding secondWord
+  words-chair [] c a h q = absurd (omega arith)
+  words-chair (x ∷ K) c a h q =
+      words-cons o c x K
+      ∙ ap₂ {C = List ℕ} (λ y z. firstWord o x ∷ y ∷ z) (ap (secondWord c) q) refl
+      ∙ sym (ap (λ (l : List ℕ). set l 1 (wordOf 3 c)) (words-cons o 0 x K))
+
+  abbrev S : List (List ℕ)
+  S = order (marked o (m .text))
+
+  some-string : 0 < length S
+  some-string = order-filled (marked o (m .text)) (marked-lyndon o (m .text) (m .stored .bytes))
+
+  -- no string stands before the first, so it has no parts
+  mark-first : (a : ℕ) × (getD (rulesOf (marked o (m .text))) 0 (symbol 0) ≡ symbol a)
+  unfolding rulesOf rulesFor
+  mark-first = split-le 2 (length (getD S 0 []))
+      (λ h.
+      let k = storable o (m .text) chair (m .stored) .numbered in
+      let at = k .once 0 some-string in
+      let (p, q) = k .parts (getD S 0 []) (omega (arith, at, some-string)) h in
+      absurd (omega (arith, at)))
+      (λ h. (getD (getD S 0 []) 0 0, rule-at S 0 ∙ rule-symbol S (getD S 0 []) h))
+
+  chaired : set (words o 0 (rulesOf (marked o (m .text)))) 1 (3221225472 + chair) ≡ words o chair (rulesFor (order (marked o (m .text))))
+  unfolding wordOf rulesOf rulesFor
+  chaired = let (a, q) = mark-first in sym (words-chair (rulesFor S) chair a (omega (arith, some-string, rules-length S)) q)
+
+  pub tabled : (v : List ℕ) → Rules o (rulesOf (marked o (m .text))) v → Below w v → Loaded o (m .text) chair (set v 11521 (3221225472 + chair))
+  tabled v r b =
+      record {
+        long = simp length-set (r .long);
+        ranks = subst (λ (k : ℕ). part 0 k u ≡ marked o (m .text)) (m .size) (kept 0 n (omega (arith, short)) ∙ ended-text);
+        first = subst (λ (k : ℕ). part 2048 k u ≡ longests (marked o (m .text))) (m .size) (kept 2048 n (omega (arith, short)) ∙ ended-first);
+        table =
+            ap (λ (k : ℕ). part 11520 k u) count
+            ∙ part-set 11520 (2 * length K) v 1 (3221225472 + chair) (omega (arith, some-string, rules-size))
+            ∙ ap (λ (l : List ℕ). set l 1 (3221225472 + chair)) (r .table)
+            ∙ chaired
+            ∙ sym (table-words o (m .text) chair (m .stored));
+      }
+    where
+      u : List ℕ
+      u = set v 11521 (3221225472 + chair)
+
+      K : List Rule
+      K = rulesOf (marked o (m .text))
+
+      short : n ≤ 2048
+      short = omega (arith, m .size, m .stored .short)
+
+      kept : (a k : ℕ) → a + k ≤ 6144 → part a k u ≡ part a k w
+      kept a k h = part-set-behind a k v 11521 (3221225472 + chair) (omega arith) ∙ part-agree 6144 a k w v b h
+
+      count : length (tableOf o (m .text) chair) ≡ 2 * length K
+      count = table-length o (m .text) chair (m .stored) ∙ ap (λ (k : ℕ). 2 * k) (sym rules-size)
+
+-- ---- a text that is placed
+
+pub stored-here : (text : List ℕ) (chair : ℕ) → length text ≤ 2047 → ((i : ℕ) → i < length text → getD text i 0 < 256) → chair < 65536 → Stored text chair
+stored-here text chair h b c = record { short = h; bytes = slice-bytes text b; chairs = c }
+
+pub placed-front-part : (o : Order) (text w v : List ℕ) → v ≡ placed (marked o text) w → part 0 (length text + 1) v ≡ marked o text
+unfolding part
+placed-front-part o text w v e =
+    ap₂ {C = List ℕ} (λ k l. take k l) (add-one (length text) ∙ sym (marked-length o text)) e ∙ placed-front (marked o text) w
+
+pub placed-long : (o : Order) (text w v : List ℕ) (chair : ℕ) → Stored text chair → 16384 ≤ length w → v ≡ placed (marked o text) w → 16384 ≤ length v
+placed-long o text w v chair k h e =
+    omega (arith, ap length e, placed-length (marked o text) w (omega (arith, marked-length o text, k .short)))
+
+unfoldable pub placed-marked : (o : Order) (text w v : List ℕ) (chair : ℕ) → Stored text chair → 16384 ≤ length w → v ≡ placed (marked o text) w
+    → Marked o (length text + 1) chair v
+placed-marked o text w v chair k h e =
+    record {
+      text = text;
+      stored = k;
+      size = add-one (length text);
+      front = placed-front-part o text w v e;
+      long = placed-long o text w v chair k h e;
+    }

@@ -1,0 +1,51 @@
+-- `build_table` finds the ends of the Lyndon words, numbers the rules, and stores the chair number beside the mark.
+use mathlib.Core.Path.{sym, _∙_, ap, subst}
+use mathlib.Core.List.{List}
+use Prim.Native.Nat.{ℕ}
+use lib.ListN.{length}
+use borrow.Author.Needs.{needs}
+use Rattle.definitions.specs.Grammar.{Rule}
+use Rattle.grammar.specs.Areas.{Rules}
+use Rattle.grammar.specs.Loaded.{Loaded}
+use Rattle.grammar.proofs.Tabling.{ended-numbers, ended-numbered, rules-size, tabled}
+use Rattle.grammar.proofs.build_table.Statement.{statement}
+use Rattle.grammar.proofs.build_table.Tie as tie
+
+ends-requires : tie.Need-ends-requires
+ends-requires c κs = search needs
+
+rules-requires : tie.Need-rules-requires
+rules-requires c κs =
+    let e = c .before .before .before in
+    let s = e .before .before .before in
+    let a = s .args in
+    ended-numbers (a .order) (a .n) (a .chair) (a .work .now) (e .ends .last .0) (s .pre) (e .ends .ensures) (e .ends .kept .0)
+
+add-put : tie.Need-add-put
+add-put c = search needs
+
+put-requires : tie.Need-put-requires
+put-requires c κs = search needs
+
+same-length : tie.Need-same-length
+same-length c = search needs
+
+returns : tie.Need-returns
+returns c =
+    let q = c .before .before in
+    let r = q .before .before .before .before in
+    let e = r .before .before .before .before in
+    let s = e .before .before .before in
+    let a = s .args in
+    λ m.
+    let same = ended-numbered (a .order) (a .n) (a .chair) (a .work .now) (e .ends .last .0) m (e .ends .ensures) (e .ends .kept .0) in
+    let (k, n, b) = r .rules .ensures in (
+      subst (λ (l : List ℕ). Loaded (a .order) (m .text) (a .chair) l) (sym (q .put .ensures))
+          (tabled (a .order) (a .n) (a .chair) (a .work .now) (e .ends .last .0) m (e .ends .ensures) (e .ends .kept .0) (r .rules .last .1 .1 .0)
+          (subst (λ (K : List Rule). Rules (a .order) K (r .rules .last .1 .1 .0)) same k) b),
+      n ∙ ap length same ∙ rules-size (a .order) (a .n) (a .chair) (a .work .now) (e .ends .last .0) m (e .ends .ensures) (e .ends .kept .0),
+    )
+
+pub build-table-spec : {M : Type 1} → statement M
+build-table-spec =
+    tie.close (tie.spec ends-requires rules-requires add-put put-requires same-length returns)

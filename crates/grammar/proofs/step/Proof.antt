@@ -1,0 +1,71 @@
+-- `step` pushes the rule of a symbol and does its joins.
+use mathlib.Core.Path.{_∙_}
+use borrow.Author.Needs.{needs}
+use Rattle.grammar.proofs.Stepping.{step-push, step-join, step-done}
+use Rattle.grammar.proofs.step.Statement.{statement}
+use Rattle.grammar.proofs.step.Tie as tie
+
+mul-number-of : tie.Need-mul-number-of
+mul-number-of c = search needs
+
+slice-read-number-of : tie.Need-slice-read-number-of
+slice-read-number-of c = search needs
+
+number-of-requires : tie.Need-number-of-requires
+number-of-requires c κs = search needs
+
+add-k : tie.Need-add-k
+add-k c = search needs
+
+mul-k : tie.Need-mul-k
+mul-k c = search needs
+
+slice-read-k : tie.Need-slice-read-k
+slice-read-k c = search needs
+
+push-rule-requires : tie.Need-push-rule-requires
+push-rule-requires c κs =
+    let x = c .before .before in
+    let s = x .before .before .before in
+    let a = s .args in
+    step-push (a .order) (a .work .now) (a .c .rules) (a .c .depth) (a .i) (s .pre) (x .number-of .result) (x .number-of .ensures)
+
+join-all-requires : tie.Need-join-all-requires
+join-all-requires c κs =
+    let f = c .before .before .before in
+    let x = f .before .before .before in
+    let s = x .before .before .before in
+    let a = s .args in
+    step-join (a .order) (a .work .now) (a .c .rules) (a .c .depth) (a .i) (s .pre) (x .number-of .result) (x .number-of .ensures)
+    (f .push-rule .last .0) (f .push-rule .result .rules) (f .push-rule .result .depth) (f .push-rule .ensures .0)
+
+same-length : tie.Need-same-length
+same-length c = search needs
+
+returns : tie.Need-returns
+returns c =
+    let g = c .before .before in
+    let f = g .before .before .before .before in
+    let x = f .before .before .before in
+    let s = x .before .before .before in
+    let a = s .args in (
+      λ p. step-done (a .order) (a .work .now) (a .c .rules) (a .c .depth) (a .i) p (x .number-of .result) (x .number-of .ensures)
+          (f .push-rule .last .0) (g .join-all .last .0) (f .push-rule .result .rules) (g .join-all .result .rules)
+          (f .push-rule .result .depth) (g .join-all .result .depth) (f .push-rule .ensures .0) (g .join-all .ensures .0),
+      g .join-all .ensures .1 ∙ f .push-rule .ensures .1,
+    )
+
+pub step-spec : {M : Type 1} → statement M
+step-spec =
+    tie.close
+    (tie.spec
+    mul-number-of
+    slice-read-number-of
+    number-of-requires
+    add-k
+    mul-k
+    slice-read-k
+    push-rule-requires
+    join-all-requires
+    same-length
+    returns)

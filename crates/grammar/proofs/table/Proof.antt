@@ -1,0 +1,40 @@
+-- `table` places the marked text and makes its table.
+use borrow.Author.Needs.{needs}
+use native.Mathlib.Omega.{arith}
+use Rattle.grammar.proofs.Tabling.{placed-marked, stored-here}
+use Rattle.grammar.proofs.table.Statement.{statement}
+use Rattle.grammar.proofs.table.Tie as tie
+
+add-n : tie.Need-add-n
+add-n c = search needs
+
+place-text-requires : tie.Need-place-text-requires
+place-text-requires c κs = search needs
+
+build-table-requires : tie.Need-build-table-requires
+build-table-requires c κs =
+    let p = c .before .before .before in
+    let k = p .before .before .before in
+    let s = k .before in
+    let a = s .args in
+    placed-marked (a .order) (a .text .now) (a .work .now) (p .place-text .last .1 .1 .0) (a .chair)
+    (stored-here (a .text .now) (a .chair) (omega arith) (λ i h. omega (arith, k .shared-slice-known .given i)) (omega arith)) (omega arith) (p .place-text .ensures)
+
+same-length : tie.Need-same-length
+same-length c = search needs
+
+returns : tie.Need-returns
+unfolding placed-marked
+returns c =
+    let b = c .before .before in
+    let p = b .before .before .before .before in
+    let k = p .before .before .before in
+    let s = k .before in
+    let a = s .args in
+    let stored = stored-here (a .text .now) (a .chair) (omega arith) (λ i h. omega (arith, k .shared-slice-known .given i)) (omega arith) in
+    let (l, r) = b .build-table .ensures (placed-marked (a .order) (a .text .now) (a .work .now) (p .place-text .last .1 .1 .0) (a .chair) stored (omega arith) (p .place-text .ensures)) in
+    (stored, l, r)
+
+pub table-spec : {M : Type 1} → statement M
+table-spec =
+    tie.close (tie.spec add-n place-text-requires build-table-requires same-length returns)

@@ -1,0 +1,83 @@
+-- A part of a slice: n entries from o on. What it holds at an index, after a store inside it or outside it, and how it splits.
+use mathlib.Core.Path.{_≡_, refl, sym, _∙_, ap, subst}
+use mathlib.Core.List.{List, [], _∷_, _++_}
+use Prim.Native.Nat.{ℕ, zero, suc, _+_, _-_, _≤_, _<_}
+use native.Mathlib.Omega.{arith}
+use native.Mathlib.Nat.{zero-add, suc-add}
+use lib.ListN.{length, take, drop, getD, set, length-take, length-drop}
+use lib.Seq.{getD-take, getD-drop, drop-drop, drop-cons, take-add, drop-set-add, drop-set-lt, take-set-lt, take-set-le, take-take, take-nil, take-at}
+
+module _ {ℓ} {A : Type ℓ} where
+  -- the n entries from o on
+  unfoldable pub part : ℕ → ℕ → List A → List A
+  part o n w = take n (drop o w)
+
+  pub part-length : (o n : ℕ) (w : List A) → o + n ≤ length w → length (part o n w) ≡ n
+  unfolding part
+  part-length o n w h = simp (length-take, length-drop) (omega arith)
+
+  pub part-at : (o n : ℕ) (w : List A) (i : ℕ) (d : A) → i < n → getD (part o n w) i d ≡ getD w (o + i) d
+  unfolding part
+  part-at o n w i d h = getD-take n (drop o w) i d h ∙ getD-drop o w i d
+
+  -- a store inside
+  pub part-set : (o n : ℕ) (w : List A) (i : ℕ) (x : A) → i < n → part o n (set w (o + i) x) ≡ set (part o n w) i x
+  unfolding part
+  part-set o n w i x h = ap (take n) (drop-set-add o w i x) ∙ take-set-lt n (drop o w) i x h
+
+  -- a store before it, or behind it
+  pub part-set-before : (o n : ℕ) (w : List A) (j : ℕ) (x : A) → j < o → part o n (set w j x) ≡ part o n w
+  unfolding part
+  part-set-before o n w j x h = ap (take n) (drop-set-lt o w j x h)
+
+  pub part-set-behind : (o n : ℕ) (w : List A) (j : ℕ) (x : A) → o + n ≤ j → part o n (set w j x) ≡ part o n w
+  unfolding part
+  part-set-behind o n w j x h =
+      subst (λ (k : ℕ). take n (drop o (set w k x)) ≡ take n (drop o w)) e
+      (ap (take n) (drop-set-add o w (j - o) x) ∙ take-set-le n (drop o w) (j - o) x (omega arith))
+    where
+      e : o + (j - o) ≡ j
+      e = omega arith
+
+  -- two parts in a row are one
+  pub part-append : (o n m : ℕ) (w : List A) → part o (n + m) w ≡ part o n w ++ part (o + n) m w
+  unfolding part
+  part-append o n m w = take-add n m (drop o w) ∙ ap (λ (x : List A). take n (drop o w) ++ take m x) (drop-drop n o w)
+
+  pub part-cons : (o n : ℕ) (w : List A) (d : A) → o < length w → part o (suc n) w ≡ getD w o d ∷ part (suc o) n w
+  unfolding part
+  part-cons o n w d h = ap (take (suc n)) (drop-cons w o d h)
+
+  -- a part that is the front of what stands from o on
+  pub part-front : (o n : ℕ) (w x y : List A) → drop o w ≡ x ++ y → length x ≡ n → part o n w ≡ x
+  unfolding part
+  part-front o n w x y e h = ap (take n) e ∙ take-at x y n h
+
+  pub part-none : (o : ℕ) (w : List A) → part o 0 w ≡ []
+  unfolding part
+  part-none o w = refl
+
+  drop-take : (p k : ℕ) (l : List A) → drop p (take (p + k) l) ≡ take k (drop p l)
+  drop-take zero k l = rw zero-add
+  drop-take (suc p) k [] = rw (take-nil, take-nil)
+  drop-take (suc p) k (a ∷ l) = rw suc-add (drop-take p k l)
+
+  -- a part of a part
+  pub part-part : (o n p m : ℕ) (w : List A) → p + m ≤ n → part p m (part o n w) ≡ part (o + p) m w
+  unfolding part
+  part-part o n p m w h =
+      subst (λ (k : ℕ). take m (drop p (take k (drop o w))) ≡ take m (drop (o + p) w)) e
+      (ap (take m) (drop-take p (n - p) (drop o w)) ∙ take-take m (n - p) (drop p (drop o w)) (omega arith) ∙ ap (take m) (drop-drop p o w))
+    where
+      e : p + (n - p) ≡ n
+      e = omega arith
+
+  -- slices that agree below m have the same parts there
+  pub part-agree : (m o n : ℕ) (w v : List A) → take m v ≡ take m w → o + n ≤ m → part o n v ≡ part o n w
+  unfolding part
+  part-agree m o n w v e h =
+      ap (λ (k : ℕ). part k n v) (sym (zero-add o))
+      ∙ sym (part-part 0 m o n v h)
+      ∙ ap (part o n) e
+      ∙ part-part 0 m o n w h
+      ∙ ap (λ (k : ℕ). part k n w) (zero-add o)
