@@ -26,12 +26,22 @@ fn smaller(x: &[u32], y: &[u32]) -> bool {
     let (m, n) = (x.len(), y.len());
     let short = if m < n { m } else { n };
     let mut i = 0;
-    while i < short {
+    while i + 1 < short {
         let (a, b) = (at(x, i), at(y, i));
         if a != b {
             return a < b;
         }
-        i += 1;
+        let (c, d) = (at(x, i + 1), at(y, i + 1));
+        if c != d {
+            return c < d;
+        }
+        i += 2;
+    }
+    if i < short {
+        let (e, f) = (at(x, i), at(y, i));
+        if e != f {
+            return e < f;
+        }
     }
     m < n
 }
@@ -136,7 +146,11 @@ pub fn build(text: &[u8], chair: u16, work: &mut [u32], result: &mut [u32]) -> (
     put(work, TABLE + 1, (3 << 30) + chair as u32);
     let short = result.len() < m;
     if !short {
-        unsafe { result.get_unchecked_mut(..m) }.copy_from_slice(part(work, TABLE, TABLE + m));
+        let mut i = 0;
+        while i < m {
+            put(result, i, at(work, TABLE + i));
+            i += 1;
+        }
     }
     clear(unsafe { work.get_unchecked_mut(..WORK) });
     if short {

@@ -1,5 +1,6 @@
 //! One call of a service under callgrind: `bench SIDE FAMILY SAMPLES`, SIDE is `library` or `rust`.
-//! Before it, the answers and all slices of both sides are compared. Work and result slices hold other words before each call.
+//! It prints the answer and a checksum of both slices afterwards, which `bench/run` compares between the sides. Work and result
+//! slices hold other words before the call.
 
 mod baseline;
 mod texts;

@@ -1,4 +1,5 @@
-// The services for C, Rust and Python: the same promises, with the answer as a struct. include/sirbolta.h declares them.
+// The services for C, Rust and Python: the same promises, with the answer as a struct. A slice is a pointer and a length; slices overlap
+// neither each other nor the inputs, and word pointers are aligned: that is the caller's part.
 use definitions::Answer;
 ghost use mathlib.Core.Path.{_≡_};
 ghost use lib.ListN.{length};

@@ -13,10 +13,6 @@ use Rattle.dict.specs.Dictionary.{bucketOf, inBucket, Dict}
 
 -- ---- rules and their buckets
 
-pub bucket-small : (x y : ℕ) → bucketOf x y < 1024
-unfolding bucketOf
-bucket-small x y = omega arith
-
 rule-bucket : (t : List ℕ) (x y k : ℕ) → hasWords t x y k ≡ true → inBucket t (bucketOf x y) k ≡ true
 unfolding hasWords inBucket
 rule-bucket t x y k e =

@@ -2,16 +2,11 @@
 -- closings from 4,096 on.
 use mathlib.Core.Path.{_≡_}
 use mathlib.Core.List.{List}
-use Prim.Native.Nat.{ℕ, suc, _+_, _-_, _≤_}
+use Prim.Native.Nat.{ℕ, suc, _+_, _-_}
 use lib.ListN.{length, drop}
 use Rattle.lists.specs.Parts.{part}
 use Rattle.lyndon.specs.Forest.{forest, longests}
 use Rattle.lyndon.specs.Closings.{closingsOf}
-
--- the string s fits its area, and the slice has every area
-pub record Room (s w : List ℕ) : Type 0 where
-  pub short : length s ≤ 2048
-  pub long : 16384 ≤ length w
 
 -- the places from i on are done: each has its longest Lyndon word's length and the joins that close behind it
 pub record Ended (s : List ℕ) (i : ℕ) (w : List ℕ) : Type 0 where

@@ -15,5 +15,11 @@ pub const STACK: usize = 6144;
 pub const LINKS: usize = 8192;
 
 pub const TABLE: usize = 11520;
+
+pub const TABLE_END: usize = 16128;
+// The second word of rule 0, which carries the chair number.
+pub const CHAIR: usize = 11521;
+// The buckets end, and the links of rules begin.
+pub const LINKS_OF_RULES: usize = 9216;
 // The words of the work slice that the services use.
 pub const WORK: usize = 16384;

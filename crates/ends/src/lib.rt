@@ -11,14 +11,13 @@ use layout::FIRST;
 use slices::put;
 use slices::wide;
 ghost use mathlib.Core.Path.{_≡_};
-ghost use mathlib.Core.List.{map};
 ghost use Prim.Native.Nat.{suc, _+_, _-_, _≤_, _<_};
 ghost use lib.ListN.{length, getD, set, drop};
 ghost use Rattle.definitions.specs.Words.{lexlt, placed};
 ghost use Rattle.definitions.specs.Table.{rankOf, marked};
 ghost use Rattle.lists.specs.Parts.{part};
 ghost use Rattle.lyndon.specs.Forest.{longest};
-ghost use Rattle.ends.specs.Areas.{Room, Ended, Merged};
+ghost use Rattle.ends.specs.Areas.{Ended, Merged};
 
 // Places the marked text at the front of the work slice.
 pub fn place_text(order: Order, text: &[u8], work: &mut [u32])
@@ -90,7 +89,7 @@ fn before(s: &[u32], i: usize, j: usize, k: usize) -> bool
     smaller(&s[i..j], &s[j..e])
 }
 
-// Whether the string x is smaller than the string y.
+// Whether the string x is smaller than the string y. Two symbols a turn.
 fn smaller<'a>(x: &'a [u32], y: &'a [u32]) -> bool
     ensures { λ r. ⌜ r ≡ lexlt (now (x .entry)) (now (y .entry)) ⌝ }
 {
@@ -98,13 +97,26 @@ fn smaller<'a>(x: &'a [u32], y: &'a [u32]) -> bool
     let n = y.len();
     let short = if m < n { m } else { n };
     let mut i = 0;
-    while i < short {
+    while i + 1 < short {
         let a = x[i];
         let b = y[i];
         if a != b {
             return a < b;
         }
-        i += 1;
+        let c = x[i + 1];
+        let d = y[i + 1];
+        if c != d {
+            return c < d;
+        }
+        i += 2;
+    }
+    if i < short {
+        let e = x[i];
+        let f = y[i];
+        if e != f {
+            return e < f;
+        }
+        return m < n;
     }
     m < n
 }

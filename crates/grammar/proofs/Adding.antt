@@ -15,8 +15,7 @@ use Rattle.lists.specs.Parts.{part, part-length, part-at, part-set, part-set-be
 use Rattle.lyndon.specs.Rules.{find}
 use Rattle.lyndon.specs.Encoding.{firstWord, secondWord, Encodes, AllEncode, words-cons, find-encoded}
 use Rattle.dict.specs.Dictionary.{bucketOf, Dict}
-use Rattle.dict.proofs.Walk.{bucket-small}
-use Rattle.dict.proofs.Links.{linked, dict-more}
+use Rattle.dict.specs.Links.{bucket-small, linked, dict-more}
 use Rattle.grammar.specs.Areas.{Rules, added}
 
 words-append : (o : Order) (K : List Rule) (x : Rule) → words o 0 (K ++ (x ∷ [])) ≡ words o 0 K ++ (firstWord o x ∷ secondWord 0 x ∷ [])

@@ -13,7 +13,7 @@ use Rattle.definitions.specs.Table.{numberOfRank, words, wordOf}
 use Rattle.lists.specs.Parts.{part, part-length, part-at, part-none}
 use Rattle.lyndon.specs.Encoding.{firstWord, secondWord}
 use Rattle.lyndon.specs.Closings.{State, start, push, joins, run, Enough, joins-depth, run-extends}
-use Rattle.dict.proofs.Links.{dict-none}
+use Rattle.dict.specs.Links.{dict-none}
 use Rattle.grammar.specs.Areas.{Rules, stackIn, Holds, Pushes, Joins, stepped, Steps, numbered, Numbers, Below}
 use Rattle.grammar.proofs.Stacks.{joins-room}
 

@@ -82,12 +82,6 @@ module _ (w l : List ℕ) (long : 16384 ≤ length w) (e : l ≡ replicate (leng
 -- ---- from the ends to the rules
 
 module _ (o : Order) (n chair : ℕ) (w₀ w : List ℕ) (m : Marked o n chair w₀) (e : Ended (part 0 n w₀) 0 w) (same : length w ≡ length w₀) where
-  abbrev text : List ℕ
-  text = m .text
-
-  marks : List ℕ
-  marks = marked o text
-
   area : length (part 0 n w₀) ≡ n
   area = part-length 0 n w₀ (omega (arith, m .long, m .size, m .stored .short))
 

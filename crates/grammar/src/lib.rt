@@ -1,10 +1,13 @@
 // The rules of a text's Lyndon grammar, numbered in the work slice: symbol after symbol its rule is pushed, and the two rules on
 // top are joined as often as joins close behind it. A rule is looked up by its two words.
 use definitions::Order;
+use ends::layout::CHAIR;
 use ends::layout::CLOSE;
 use ends::layout::LINKS;
+use ends::layout::LINKS_OF_RULES;
 use ends::layout::STACK;
 use ends::layout::TABLE;
+use ends::layout::TABLE_END;
 use slices::put;
 use slices::wide;
 ghost use mathlib.Core.Path.{_≡_};
@@ -20,6 +23,13 @@ ghost use Rattle.definitions.specs.Grammar.{order as orderOf};
 ghost use Rattle.definitions.specs.Table.{marked, numberOfRank};
 ghost use Rattle.grammar.specs.Areas.{Rules, Holds, Pushes, Joins, Steps, Numbers, Below, added, stepped, numbered};
 ghost use Rattle.grammar.specs.Loaded.{Marked, Loaded};
+
+// The kinds of words, in their top two bits.
+const KIND_1: u32 = 1073741824;
+
+const KIND_2: u32 = 2147483648;
+
+const KIND_3: u32 = 3221225472;
 
 // How many rules there are, and how many stand on the stack.
 pub struct Counts {
@@ -44,7 +54,7 @@ pub fn build_table(order: Order, n: usize, chair: u16, work: &mut [u32]) -> usiz
 {
     ends::ends(work, n);
     let r = rules(order, n, work);
-    put(work, 11521, 3221225472 + chair as u32);
+    put(work, CHAIR, KIND_3 + chair as u32);
     r
 }
 
@@ -53,7 +63,7 @@ fn rules(order: Order, n: usize, work: &mut [u32]) -> usize
     requires { ⌜ Numbers n (now work) ⌝ }
     ensures { λ r. ⌜ Rules order (numbered n (now (work .entry))) (now (work .exit)) × (r ≡ length (numbered n (now (work .entry)))) × Below (now (work .entry)) (now (work .exit)) ⌝ }
 {
-    slices::clear(&mut work[8192..9216]);
+    slices::clear(&mut work[LINKS..LINKS_OF_RULES]);
     number(order, n, work)
 }
 
@@ -78,7 +88,7 @@ fn step(work: &mut [u32], order: Order, c: Counts, i: usize) -> Counts
 {
     let x = number_of(order, work[i]);
     let k = work[CLOSE + i];
-    let t = push_rule(work, c, x, 3221225472);
+    let t = push_rule(work, c, x, KIND_3);
     join_all(work, t, k)
 }
 
@@ -118,7 +128,7 @@ fn join_top(work: &mut [u32], c: Counts) -> Counts
         rules: n,
         depth: d - 2,
     };
-    push_rule(work, below, 1073741824 + i, 2147483648 + j)
+    push_rule(work, below, KIND_1 + i, KIND_2 + j)
 }
 
 // Pushes the rule with the words x and y, which is added if it is new.
@@ -149,7 +159,7 @@ fn look_up(work: &[u32], n: usize, x: u32, y: u32) -> usize
     requires { ⌜ Dict (part 11520 4608 (now work)) (part 8192 3328 (now work)) n × (n ≤ 2304) × (16384 ≤ length (now work)) ⌝ }
     ensures { λ r. ⌜ r ≡ newest (hasWords (part 11520 4608 (now (work .entry))) x y) n ⌝ }
 {
-    dict::find(&work[11520..16128], &work[8192..11520], n, x, y)
+    dict::find(&work[TABLE..TABLE_END], &work[LINKS..TABLE], n, x, y)
 }
 
 // Adds rule n with the words x and y.

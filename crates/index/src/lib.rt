@@ -2,6 +2,8 @@
 // What it answers and what every lent slice holds afterwards is given by its definition, from the inputs alone.
 use definitions::Answer;
 use definitions::Order;
+use ends::layout::TABLE;
+use ends::layout::WORK;
 ghost use mathlib.Core.Path.{_≡_};
 ghost use mathlib.Core.Bool.{cond};
 ghost use Prim.Native.Nat.{_+_, _*_, _≤_, _<_};
@@ -43,8 +45,8 @@ fn build_checked(
     ensures { λ _. ⌜ now (result .exit) ≡ cond (ltb (length (now (result .entry))) (length (tableOf order (now (text .entry)) chair))) (now (result .entry)) (placed (tableOf order (now (text .entry)) chair) (now (result .entry))) ⌝ }
     ensures { λ _. ⌜ now (work .exit) ≡ cleared (now (work .entry)) ⌝ }
 {
-    let a = build_in(order, text, chair, &mut work[0..16384], result);
-    slices::clear(&mut work[0..16384]);
+    let a = build_in(order, text, chair, &mut work[0..WORK], result);
+    slices::clear(&mut work[0..WORK]);
     a
 }
 
@@ -54,8 +56,8 @@ fn build_in(order: Order, text: &[u8], chair: u16, work: &mut [u32], result: &mu
     ensures { λ r. ⌜ r ≡ checked (resultTooShort (length (tableOf order (now (text .entry)) chair)) (length (now (result .entry)))) (length (tableOf order (now (text .entry)) chair)) ⌝ }
     ensures { λ _. ⌜ now (result .exit) ≡ cond (ltb (length (now (result .entry))) (length (tableOf order (now (text .entry)) chair))) (now (result .entry)) (placed (tableOf order (now (text .entry)) chair) (now (result .entry))) ⌝ }
 {
-    let end = 11520 + 2 * grammar::table(order, text, chair, work);
-    deliver(&work[11520..end], result)
+    let end = TABLE + 2 * grammar::table(order, text, chair, work);
+    deliver(&work[TABLE..end], result)
 }
 
 // Copies words to the front of the result slice, or refuses by 9.
@@ -86,7 +88,7 @@ fn text_fits(text: &[u8]) -> Answer
 fn work_fits(n: usize) -> Answer
     ensures { λ r. ⌜ r ≡ checked (workTooShort n) n ⌝ }
 {
-    if n < 16384 {
+    if n < WORK {
         Answer::Refused(4, 0)
     } else {
         Answer::Done(n)

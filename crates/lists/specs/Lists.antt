@@ -1,10 +1,10 @@
 -- Laws of lists: how two splits of one list overlap, and the front of a slice, `placed`.
-use mathlib.Core.Path.{_≡_, refl, sym, _∙_, ap, ap₂, subst}
+use mathlib.Core.Path.{_≡_, refl, sym, ap₂}
 use mathlib.Core.List.{List, [], _∷_, _++_, append-assoc, head-eq-of-cons-eq, tail-eq-of-cons-eq}
-use Prim.Native.Nat.{ℕ, suc, _+_, _-_, _≤_, _<_}
+use Prim.Native.Nat.{suc, _+_, _≤_, _<_}
 use native.Mathlib.Omega.{arith}
 use lib.ListN.{length, take, drop, getD, set, length-append, length-drop}
-use lib.Seq.{drop-cons, set-at, getD-append-add, getD-drop, drop-append-add, drop-drop, take-append-seam}
+use lib.Seq.{drop-cons, set-at, take-append-seam}
 use Rattle.definitions.specs.Words.{placed}
 
 module _ {ℓ} {A : Type ℓ} where
@@ -66,27 +66,6 @@ module _ {ℓ} {A : Type ℓ} where
       one : length l + 1 ≡ suc (length l)
       one = omega arith
 
-  -- behind the front stands what stood there
-  pub placed-rest : (l old : List A) (i : ℕ) (d : A) → length l ≤ i → getD (placed l old) i d ≡ getD old i d
-  unfolding placed
-  placed-rest l old i d h =
-      subst (λ (n : ℕ). getD (l ++ drop (length l) old) n d ≡ getD old n d) e
-      (getD-append-add l (drop (length l) old) (i - length l) d ∙ getD-drop (length l) old (i - length l) d)
-    where
-      e : length l + (i - length l) ≡ i
-      e = omega arith
-
   pub placed-front : (l old : List A) → take (length l) (placed l old) ≡ l
   unfolding placed
   placed-front l old = take-append-seam l (drop (length l) old)
-
-  -- a front that is written over
-  pub placed-twice : (l m old : List A) → length m ≤ length l → placed l (placed m old) ≡ placed l old
-  unfolding placed
-  placed-twice l m old h =
-      ap (λ (r : List A). l ++ r)
-      (subst (λ (n : ℕ). drop n (m ++ drop (length m) old) ≡ drop n old) e
-      (drop-append-add m (drop (length m) old) (length l - length m) ∙ drop-drop (length l - length m) (length m) old))
-    where
-      e : length m + (length l - length m) ≡ length l
-      e = omega arith

@@ -4,23 +4,17 @@ use Rattle.capi.specs.Replies.{replyOutcome}
 use borrow.Author.Needs.{needs}
 use Rattle.capi.proofs.replied.Statement.{statement}
 use Rattle.capi.proofs.replied.Tie as tie
-use Rattle.capi.proofs.replied.Reads as reads
-use Rattle.capi.proofs.replied.Lts as lts
 
--- src/lib.rt:32:22
 enum-known-a : tie.Need-enum-known-a
 enum-known-a c = search needs
 
--- src/lib.rt:38:25
 enum-known-a-2 : tie.Need-enum-known-a-2
 enum-known-a-2 c = search needs
 
--- src/lib.rt:28:1
 returns : tie.Need-returns
 unfolding replyOutcome outcomeOf
 returns c = rw (c .before .a .given .1)
 
--- src/lib.rt:28:1
 returns-2 : tie.Need-returns-2
 unfolding replyOutcome outcomeOf
 returns-2 c = rw (c .before .a2 .given .1)

@@ -3,28 +3,19 @@ use mathlib.Core.Path.{_∙_}
 use borrow.Author.Needs.{needs}
 use Rattle.capi.proofs.sirbolta_build.Statement.{statement}
 use Rattle.capi.proofs.sirbolta_build.Tie as tie
-use Rattle.capi.proofs.sirbolta_build.Reads as reads
-use Rattle.capi.proofs.sirbolta_build.Lts as lts
-use Rattle.capi.proofs.replied.Reads as replied-reads
-use Rattle.index.proofs.build.Reads as build-reads
 
--- src/lib.rt:24:13
 build-requires : tie.Need-build-requires
 build-requires c κs = search needs
 
--- src/lib.rt:24:5
 replied-requires : tie.Need-replied-requires
 replied-requires c κs = search needs
 
--- src/lib.rt:18:1
 same-length : tie.Need-same-length
 same-length c = search needs
 
--- src/lib.rt:18:1
 same-length-2 : tie.Need-same-length-2
 same-length-2 c = search needs
 
--- src/lib.rt:18:1
 returns : tie.Need-returns
 returns c =
     let b = c .before .before .before .before .before in

@@ -6,7 +6,8 @@ use lib.ListN.{getD}
 use Prim.Native.Nat.{ℕ, _-_}
 use native.Mathlib.Omega.{arith}
 use Rattle.lists.specs.Newest.{hasWords}
-use Rattle.dict.proofs.Walk.{Walk, walk-start, walk-next, walk-found, walk-ended, bucket-small, rule-here, first-differs, second-differs}
+use Rattle.dict.specs.Links.{bucket-small}
+use Rattle.dict.proofs.Walk.{Walk, walk-start, walk-next, walk-found, walk-ended, rule-here, first-differs, second-differs}
 use Rattle.dict.proofs.find.Statement.{statement}
 use Rattle.dict.proofs.find.Tie as tie
 

@@ -2,7 +2,7 @@
 use borrow.Author.Needs.{needs}
 use native.Mathlib.Omega.{arith}
 use lib.ListN.{length-set}
-use Rattle.dict.proofs.Walk.{bucket-small}
+use Rattle.dict.specs.Links.{bucket-small}
 use Rattle.dict.proofs.link.Statement.{statement}
 use Rattle.dict.proofs.link.Tie as tie
 

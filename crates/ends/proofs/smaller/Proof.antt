@@ -1,7 +1,7 @@
 -- `smaller` decides the order of strings. The loop's invariant: the symbols passed agree, so what is left decides.
-use mathlib.Core.Path.{_≡_, sym, _∙_, refl}
+use mathlib.Core.Path.{_≡_, sym, _∙_, refl, ap}
 use mathlib.Core.Logic.{⊎-elim}
-use Prim.Native.Nat.{_≤_, _-_, min}
+use Prim.Native.Nat.{ℕ, _+_, _≤_, _-_, min}
 use native.Mathlib.Omega.{arith}
 use lib.ListN.{length, drop}
 use Rattle.definitions.specs.Words.{lexlt}
@@ -22,6 +22,9 @@ loop-holds c = ⊎-elim
     (λ w. (omega arith, omega arith, refl, refl, refl))
     (c .if1 .came)
 
+add-loop : tie.Need-add-loop Inv-loop μ-loop
+add-loop c = omega arith
+
 mul-a : tie.Need-mul-a Inv-loop μ-loop
 mul-a c = omega arith
 
@@ -39,7 +42,35 @@ returns c =
     let at = c .before .before .before .before in
     let x = at .before .before .args .x .now in
     let y = at .before .before .args .y .now in
-    sym (at .loop .inv .4 ∙ differ x y (at .loop .i) (omega arith) (omega arith) (c .if2 .taken))
+    let i = at .loop .i in
+    sym (at .loop .inv .4 ∙ differ x y i (omega arith) (omega arith) (c .if2 .taken))
+
+add-c : tie.Need-add-c Inv-loop μ-loop
+add-c c = omega arith
+
+mul-c : tie.Need-mul-c Inv-loop μ-loop
+mul-c c = omega arith
+
+shared-slice-read-c : tie.Need-shared-slice-read-c Inv-loop μ-loop
+shared-slice-read-c c = omega arith
+
+add-d : tie.Need-add-d Inv-loop μ-loop
+add-d c = omega arith
+
+mul-d : tie.Need-mul-d Inv-loop μ-loop
+mul-d c = omega arith
+
+shared-slice-read-d : tie.Need-shared-slice-read-d Inv-loop μ-loop
+shared-slice-read-d c = omega arith
+
+returns-2 : tie.Need-returns-2 Inv-loop μ-loop
+returns-2 c =
+    let first = c .before .before .before in
+    let at = first .before .before .before .before in
+    let x = at .before .before .args .x .now in
+    let y = at .before .before .args .y .now in
+    let i = at .loop .i in
+    sym (at .loop .inv .4 ∙ agree x y i (omega arith) (omega arith) (first .if2 .left) ∙ differ x y (i + 1) (omega arith) (omega arith) (c .if3 .taken))
 
 add-i : tie.Need-add-i Inv-loop μ-loop
 add-i c = omega arith
@@ -49,17 +80,54 @@ loop-less c = omega arith
 
 loop-again : tie.Need-loop-again Inv-loop μ-loop
 loop-again c =
-    let at = c .before .before .before .before in
+    let first = c .before .before .before in
+    let at = first .before .before .before .before in
     let x = at .before .before .args .x .now in
     let y = at .before .before .args .y .now in
-    (omega arith, at .loop .inv .1, refl, refl, at .loop .inv .4 ∙ agree x y (at .loop .i) (omega arith) (omega arith) (c .if2 .left))
+    let i = at .loop .i in
+    let two : i + 1 + 1 ≡ i + 2 = omega arith in (
+      omega arith,
+      at .loop .inv .1,
+      refl,
+      refl,
+      at .loop .inv .4 ∙ agree x y i (omega arith) (omega arith) (first .if2 .left) ∙ agree x y (i + 1) (omega arith) (omega arith) (c .if3 .left) ∙ ap (λ (k : ℕ). lexlt (drop k x) (drop k y)) two,
+    )
 
-returns-2 : tie.Need-returns-2 Inv-loop μ-loop
-returns-2 c =
-    let at = c .before in
+mul-e : tie.Need-mul-e Inv-loop μ-loop
+mul-e c = omega arith
+
+shared-slice-read-e : tie.Need-shared-slice-read-e Inv-loop μ-loop
+shared-slice-read-e c = omega arith
+
+mul-f : tie.Need-mul-f Inv-loop μ-loop
+mul-f c = omega arith
+
+shared-slice-read-f : tie.Need-shared-slice-read-f Inv-loop μ-loop
+shared-slice-read-f c = omega arith
+
+returns-3 : tie.Need-returns-3 Inv-loop μ-loop
+returns-3 c =
+    let at = c .before .before .before .before .before in
     let x = at .before .before .args .x .now in
     let y = at .before .before .args .y .now in
-    sym (at .loop .inv .4 ∙ ended x y (at .loop .i) (omega arith))
+    let i = at .loop .i in
+    sym (at .loop .inv .4 ∙ differ x y i (omega arith) (omega arith) (c .if5 .taken))
+
+returns-4 : tie.Need-returns-4 Inv-loop μ-loop
+returns-4 c =
+    let at = c .before .before .before .before .before in
+    let x = at .before .before .args .x .now in
+    let y = at .before .before .args .y .now in
+    let i = at .loop .i in
+    sym (at .loop .inv .4 ∙ agree x y i (omega arith) (omega arith) (c .if5 .left) ∙ ended x y (i + 1) (omega arith))
+
+returns-5 : tie.Need-returns-5 Inv-loop μ-loop
+returns-5 c =
+    let at = c .before .before in
+    let x = at .before .before .args .x .now in
+    let y = at .before .before .args .y .now in
+    let i = at .loop .i in
+    sym (at .loop .inv .4 ∙ ended x y i (omega arith))
 
 pub smaller-spec : {M : Type 1} → statement M
 smaller-spec =
@@ -68,12 +136,26 @@ smaller-spec =
     Inv-loop
     μ-loop
     loop-holds
+    add-loop
     mul-a
     shared-slice-read-a
     mul-b
     shared-slice-read-b
     returns
+    add-c
+    mul-c
+    shared-slice-read-c
+    add-d
+    mul-d
+    shared-slice-read-d
+    returns-2
     add-i
     loop-less
     loop-again
-    returns-2)
+    mul-e
+    shared-slice-read-e
+    mul-f
+    shared-slice-read-f
+    returns-3
+    returns-4
+    returns-5)

@@ -13,7 +13,10 @@ use borrow.Author.Tests.{eq-eqb, ne-eqb}
 use Rattle.lists.specs.Numbers.{split-lt}
 use Rattle.lists.specs.Newest.{latest, latest-true, latest-false, latest-ext}
 use Rattle.dict.specs.Dictionary.{bucketOf, inBucket, Dict}
-use Rattle.dict.proofs.Walk.{bucket-small}
+
+pub bucket-small : (x y : ℕ) → bucketOf x y < 1024
+unfolding bucketOf
+bucket-small x y = omega arith
 
 pub dict-none : (t links : List ℕ) → ((b : ℕ) → b < 1024 → getD links b 0 ≡ 0) → Dict t links 0
 unfolding latest
