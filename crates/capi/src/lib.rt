@@ -4,7 +4,7 @@ use definitions::Answer;
 ghost use mathlib.Core.Path.{_≡_};
 ghost use lib.ListN.{length};
 ghost use Rattle.definitions.specs.declared.Order.the-variants.{Unsigned};
-ghost use Rattle.definitions.specs.Services.{outcome, outcomeOf, resultAfter, workAfter, buildService};
+ghost use Rattle.definitions.specs.Services.{outcome, outcomeOf, resultAfter, workAfter, buildService, checkService};
 ghost use Rattle.capi.specs.Replies.{replyOutcome};
 
 // number: 0 on success, else the refusal's.
@@ -28,6 +28,14 @@ pub extern "C" fn sirbolta_build(
     ensures work { λ _. ⌜ now (work .exit) ≡ workAfter (buildService Unsigned (now (text .entry)) chair (length (now (work .entry))) (length (now (result .entry)))) (now (work .entry)) ⌝ }
 {
     replied(index::build(text, chair, work, result))
+}
+
+#[no_mangle]
+pub extern "C" fn sirbolta_check(table: &[u32], work: &mut [u32]) -> Reply
+    ensures answer { λ r. ⌜ replyOutcome r ≡ outcome (checkService Unsigned (now (table .entry)) (length (now (work .entry)))) ⌝ }
+    ensures work { λ _. ⌜ now (work .exit) ≡ workAfter (checkService Unsigned (now (table .entry)) (length (now (work .entry)))) (now (work .entry)) ⌝ }
+{
+    replied(index::check(table, work))
 }
 
 // An answer as a struct.

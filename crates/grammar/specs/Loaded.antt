@@ -1,14 +1,16 @@
 -- What the work slice holds of a text once its table is made: ranks, lengths of the longest Lyndon words, and the table, each as a
 -- function of the text. Every service that reads rules starts from this state, however it came about.
-use mathlib.Core.Path.{_≡_}
+use mathlib.Core.Path.{_≡_, _∙_, ap}
 use mathlib.Core.List.{List}
-use Prim.Native.Nat.{ℕ, suc, _≤_}
-use lib.ListN.{length}
+use Prim.Native.Nat.{ℕ, suc, _+_, _-_, _*_, _≤_}
+use native.Mathlib.Omega.{arith}
+use lib.ListN.{length, take, drop}
 use Rattle.definitions.specs.declared.Order.{Order}
+use Rattle.definitions.specs.Grammar.{order}
 use Rattle.definitions.specs.Table.{marked, tableOf}
 use Rattle.lists.specs.Parts.{part}
 use Rattle.lyndon.specs.Forest.{longests}
-use Rattle.lyndon.specs.Reading.{Stored}
+use Rattle.lyndon.specs.Reading.{Stored, order-most, table-length}
 
 -- the n ranks at the front are those of a marked text
 pub record Marked (o : Order) (n chair : ℕ) (w : List ℕ) : Type 0 where
@@ -23,3 +25,14 @@ pub record Loaded (o : Order) (text : List ℕ) (chair : ℕ) (w : List ℕ) : T
   pub ranks : part 0 (suc (length text)) w ≡ marked o text
   pub first : part 2048 (suc (length text)) w ≡ longests (marked o text)
   pub table : part 11520 (length (tableOf o text chair)) w ≡ tableOf o text chair
+
+-- the words of the table that is loaded
+pub loaded-words : (o : Order) (text w : List ℕ) (chair r : ℕ) → Stored text chair → Loaded o text chair w → r ≡ length (order (marked o text))
+    → take (11520 + 2 * r - 11520) (drop 11520 w) ≡ tableOf o text chair
+unfolding part
+loaded-words o text w chair r k l e =
+    let size : 11520 + 2 * r - 11520 ≡ length (tableOf o text chair) = omega (arith, table-length o text chair k) in
+    ap (λ (n : ℕ). take n (drop 11520 w)) size ∙ l .table
+
+pub rules-most : (o : Order) (text : List ℕ) (chair r : ℕ) → Stored text chair → r ≡ length (order (marked o text)) → r ≤ 2304
+rules-most o text chair r k e = omega (arith, order-most o text chair k)

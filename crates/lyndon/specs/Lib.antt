@@ -15,3 +15,4 @@ pub mod Occurrences
 pub mod Cuts
 pub mod Joins
 pub mod Pairs
+pub mod Shapes

@@ -1,8 +1,8 @@
-// Small functions on lent slices of words: store, clear, copy.
+// Small functions on lent slices of words: store, clear, copy, compare.
 ghost use mathlib.Core.Path.{_≡_};
 ghost use Prim.Native.Nat.{_≤_, _<_};
 ghost use lib.ListN.{length, set, replicate};
-ghost use Rattle.definitions.specs.Words.{placed};
+ghost use Rattle.definitions.specs.Words.{placed, same};
 
 // Stores x.
 pub fn put(s: &mut [u32], at: usize, x: u32)
@@ -33,6 +33,23 @@ pub fn copy(from: &[u32], to: &mut [u32])
         to[i] = from[i];
         i += 1;
     }
+}
+
+// Whether two slices hold the same words.
+pub fn equal<'a>(x: &'a [u32], y: &'a [u32]) -> bool
+    ensures { λ r. ⌜ r ≡ same (now (x .entry)) (now (y .entry)) ⌝ }
+{
+    if x.len() != y.len() {
+        return false;
+    }
+    let mut i = 0;
+    while i < x.len() {
+        if x[i] != y[i] {
+            return false;
+        }
+        i += 1;
+    }
+    true
 }
 
 // A word as an index.

@@ -16,17 +16,8 @@ part-build-in-end c = search needs
 build-in-requires : tie.Need-build-in-requires
 build-in-requires c κs = search needs
 
-sub-clear : tie.Need-sub-clear
-sub-clear c = search needs
-
-part-clear-start : tie.Need-part-clear-start
-part-clear-start c = search needs
-
-part-clear-end : tie.Need-part-clear-end
-part-clear-end c = search needs
-
-clear-requires : tie.Need-clear-requires
-clear-requires c κs = search needs
+clear-front-requires : tie.Need-clear-front-requires
+clear-front-requires c κs = search needs
 
 same-length : tie.Need-same-length
 same-length c = search needs
@@ -43,7 +34,7 @@ returns c =
       b .build-in .ensures .0,
       (
         b .build-in .ensures .1,
-        work-cleared (a .work .now) (b .build-in .last .1 .1 .1 .0) (l .clear .last .0) (s .pre .1) (b .build-in .kept .1 .1 .1 .0) (l .clear .ensures),
+        work-cleared (a .work .now) (b .build-in .last .1 .1 .1 .0) (l .clear-front .last .0) (s .pre .1) (b .build-in .kept .1 .1 .1 .0) (l .clear-front .ensures),
       ),
     )
 
@@ -55,10 +46,7 @@ build-checked-spec =
     part-build-in-start
     part-build-in-end
     build-in-requires
-    sub-clear
-    part-clear-start
-    part-clear-end
-    clear-requires
+    clear-front-requires
     same-length
     same-length-2
     returns)

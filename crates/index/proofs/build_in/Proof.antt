@@ -1,6 +1,6 @@
 -- `build_in` makes the table in the work slice, and delivers it.
 use native.Mathlib.Omega.{arith}
-use Rattle.index.proofs.Fronts.{rules-most, loaded-words}
+use Rattle.grammar.specs.Loaded.{rules-most, loaded-words}
 use borrow.Author.Needs.{needs}
 use Rattle.index.proofs.build_in.Statement.{statement}
 use Rattle.index.proofs.build_in.Tie as tie
