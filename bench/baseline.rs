@@ -25,20 +25,21 @@ fn part(s: &[u32], from: usize, to: usize) -> &[u32] {
 fn smaller(x: &[u32], y: &[u32]) -> bool {
     let (m, n) = (x.len(), y.len());
     let short = if m < n { m } else { n };
+    let pairs = short / 2;
     let mut i = 0;
-    while i + 1 < short {
-        let (a, b) = (at(x, i), at(y, i));
+    while i < pairs {
+        let (a, b) = (at(x, 2 * i), at(y, 2 * i));
         if a != b {
             return a < b;
         }
-        let (c, d) = (at(x, i + 1), at(y, i + 1));
+        let (c, d) = (at(x, 2 * i + 1), at(y, 2 * i + 1));
         if c != d {
             return c < d;
         }
-        i += 2;
+        i += 1;
     }
-    if i < short {
-        let (e, f) = (at(x, i), at(y, i));
+    if 2 * i < short {
+        let (e, f) = (at(x, 2 * i), at(y, 2 * i));
         if e != f {
             return e < f;
         }
@@ -46,11 +47,19 @@ fn smaller(x: &[u32], y: &[u32]) -> bool {
     m < n
 }
 
+fn before(s: &[u32], i: usize, j: usize, k: usize) -> bool {
+    let (a, b) = (at(s, i), at(s, j));
+    if a != b {
+        return a < b;
+    }
+    smaller(part(s, i + 1, j), part(s, j + 1, j + k))
+}
+
 fn merge(work: &mut [u32], n: usize, i: usize) -> usize {
     let mut j = i + 1;
     while j < n {
         let k = at(work, FIRST + j) as usize;
-        if !smaller(part(work, i, j), part(work, j, j + k)) {
+        if !before(work, i, j, k) {
             return j;
         }
         let closes = at(work, CLOSE + j + k - 1);

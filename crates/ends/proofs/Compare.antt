@@ -1,8 +1,8 @@
 -- Comparing two strings symbol by symbol: while symbols agree, the rest decides; at a difference it does, and at an end the lengths do.
-use mathlib.Core.Path.{_≡_, refl, _∙_}
+use mathlib.Core.Path.{_≡_, refl, _∙_, ap}
 use mathlib.Core.Bool.{Bool, true, false, _&&_, _||_}
 use mathlib.Core.List.{List, [], _∷_}
-use Prim.Native.Nat.{ℕ, suc, _+_, _≤_, _<_, min}
+use Prim.Native.Nat.{ℕ, suc, _+_, _-_, _≤_, _<_, min}
 use native.Mathlib.Omega.{arith}
 use native.Mathlib.Nat.{le-refl}
 use native.Mathlib.Numerals.{add-one}
@@ -12,6 +12,7 @@ use lib.Dec.{ltb, eqb}
 use borrow.Author.Tests.{lt-ltb, le-ltb, eq-eqb, ne-eqb}
 use Rattle.definitions.specs.Words.{lexlt}
 use Rattle.lists.specs.Numbers.{split-le}
+use Rattle.lists.specs.Parts.{part, part-cons}
 
 module _ (x y : List ℕ) (i : ℕ) (hx : i < length x) (hy : i < length y) where
   heads : lexlt (drop i x) (drop i y) ≡ ltb (getD x i 0) (getD y i 0) || (eqb (getD x i 0) (getD y i 0) && lexlt (drop (suc i) x) (drop (suc i) y))
@@ -48,3 +49,18 @@ ended x y i e = split-le (length y) (length x) second first
     second h =
         let k : i ≡ length y = omega arith in
         rw (k, drop-of-length-le y (le-refl (length y)), le-ltb (length x) (length y) h) (nothing (drop (length y) x))
+
+-- two words of s side by side: their first symbols decide, or else what follows these
+module _ (s : List ℕ) (i j k : ℕ) (hi : i < j) (hk : 0 < k) (hs : j + k ≤ length s) where
+  firsts : lexlt (part i (j - i) s) (part j k s) ≡ lexlt (getD s i 0 ∷ part (i + 1) (j - (i + 1)) s) (getD s j 0 ∷ part (j + 1) (j + k - (j + 1)) s)
+  firsts =
+      let u : j - i ≡ suc (j - (i + 1)) = omega arith in
+      let v : k ≡ suc (j + k - (j + 1)) = omega arith in
+      ap (λ (x : List ℕ). lexlt x (part j k s)) (ap (λ (n : ℕ). part i n s) u ∙ part-cons i (j - (i + 1)) s 0 (omega arith) ∙ rw add-one)
+      ∙ ap (lexlt (getD s i 0 ∷ part (i + 1) (j - (i + 1)) s)) (ap (λ (n : ℕ). part j n s) v ∙ part-cons j (j + k - (j + 1)) s 0 (omega arith) ∙ rw add-one)
+
+  pub firsts-agree : getD s i 0 ≡ getD s j 0 → lexlt (part i (j - i) s) (part j k s) ≡ lexlt (part (i + 1) (j - (i + 1)) s) (part (j + 1) (j + k - (j + 1)) s)
+  firsts-agree e = firsts ∙ agree (getD s i 0 ∷ part (i + 1) (j - (i + 1)) s) (getD s j 0 ∷ part (j + 1) (j + k - (j + 1)) s) 0 (omega arith) (omega arith) e
+
+  pub firsts-differ : (getD s i 0 ≡ getD s j 0 → ⊥) → lexlt (part i (j - i) s) (part j k s) ≡ ltb (getD s i 0) (getD s j 0)
+  firsts-differ n = firsts ∙ differ (getD s i 0 ∷ part (i + 1) (j - (i + 1)) s) (getD s j 0 ∷ part (j + 1) (j + k - (j + 1)) s) 0 (omega arith) (omega arith) n

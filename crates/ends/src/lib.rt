@@ -80,13 +80,20 @@ fn merge(work: &mut [u32], n: usize, i: usize) -> usize
     j
 }
 
-// Whether the word from i up to j is smaller than that of k symbols from j on.
+// Whether the word from i up to j is smaller than that of k symbols from j on. The first symbols most often decide.
 fn before(s: &[u32], i: usize, j: usize, k: usize) -> bool
-    requires { ⌜ (i ≤ j) × (j + k ≤ length (now s)) ⌝ }
+    requires { ⌜ (i < j) × (0 < k) × (j + k ≤ length (now s)) ⌝ }
     ensures { λ r. ⌜ r ≡ lexlt (part i (j - i) (now (s .entry))) (part j k (now (s .entry))) ⌝ }
 {
+    let a = s[i];
+    let b = s[j];
+    if a != b {
+        return a < b;
+    }
+    let p = i + 1;
+    let q = j + 1;
     let e = j + k;
-    smaller(&s[i..j], &s[j..e])
+    smaller(&s[p..j], &s[q..e])
 }
 
 // Whether the string x is smaller than the string y. Two symbols a turn.
@@ -96,23 +103,24 @@ fn smaller<'a>(x: &'a [u32], y: &'a [u32]) -> bool
     let m = x.len();
     let n = y.len();
     let short = if m < n { m } else { n };
+    let pairs = short / 2;
     let mut i = 0;
-    while i + 1 < short {
-        let a = x[i];
-        let b = y[i];
+    while i < pairs {
+        let a = x[2 * i];
+        let b = y[2 * i];
         if a != b {
             return a < b;
         }
-        let c = x[i + 1];
-        let d = y[i + 1];
+        let c = x[2 * i + 1];
+        let d = y[2 * i + 1];
         if c != d {
             return c < d;
         }
-        i += 2;
+        i += 1;
     }
-    if i < short {
-        let e = x[i];
-        let f = y[i];
+    if 2 * i < short {
+        let e = x[2 * i];
+        let f = y[2 * i];
         if e != f {
             return e < f;
         }

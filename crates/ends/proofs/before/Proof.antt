@@ -1,11 +1,34 @@
--- `before` compares two parts of a slice that stand side by side.
-use mathlib.Core.Path.{_≡_}
-use Prim.Native.Nat.{_+_, _-_}
+-- `before` compares two words that stand side by side: their first symbols, and then what follows these.
+use mathlib.Core.Path.{_≡_, sym, _∙_}
 use borrow.Author.Needs.{needs}
 use native.Mathlib.Omega.{arith}
 use Rattle.lists.specs.Parts.{part}
+use Rattle.ends.proofs.Compare.{firsts-agree, firsts-differ}
 use Rattle.ends.proofs.before.Statement.{statement}
 use Rattle.ends.proofs.before.Tie as tie
+
+mul-a : tie.Need-mul-a
+mul-a c = search needs
+
+shared-slice-read-a : tie.Need-shared-slice-read-a
+shared-slice-read-a c = search needs
+
+mul-b : tie.Need-mul-b
+mul-b c = search needs
+
+shared-slice-read-b : tie.Need-shared-slice-read-b
+shared-slice-read-b c = search needs
+
+returns : tie.Need-returns
+returns c =
+    let a = c .before .before .before .before .args in
+    sym (firsts-differ (a .s .now) (a .i) (a .j) (a .k) (omega arith) (omega arith) (omega arith) (c .if1 .taken))
+
+add-p : tie.Need-add-p
+add-p c = search needs
+
+add-q : tie.Need-add-q
+add-q c = search needs
 
 add-e : tie.Need-add-e
 add-e c = search needs
@@ -37,17 +60,24 @@ part-smaller-end-2 c = search needs
 smaller-requires : tie.Need-smaller-requires
 smaller-requires c κs = search needs
 
-returns : tie.Need-returns
+returns-2 : tie.Need-returns-2
 unfolding part
-returns c =
-    let a = c .before .before .before .before .args in
-    let e : a .j + a .k - a .j ≡ a .k = omega arith in
-    rw e at (c .smaller .ensures)
+returns-2 c =
+    let test = c .before .before .before in
+    let a = test .before .before .before .before .args in
+    c .smaller .ensures ∙ sym (firsts-agree (a .s .now) (a .i) (a .j) (a .k) (omega arith) (omega arith) (omega arith) (test .if1 .left))
 
 pub before-spec : {M : Type 1} → statement M
 before-spec =
     tie.close
     (tie.spec
+    mul-a
+    shared-slice-read-a
+    mul-b
+    shared-slice-read-b
+    returns
+    add-p
+    add-q
     add-e
     mul-smaller
     sub-smaller
@@ -58,4 +88,4 @@ before-spec =
     part-smaller-start-2
     part-smaller-end-2
     smaller-requires
-    returns)
+    returns-2)

@@ -59,7 +59,7 @@ before-requires c κs =
     let at = w .before .before .before in
     let a = at .before .before .args in
     let u = turn (a .work .now) (at .loop .work) (a .n) (a .i) (at .loop .j) (w .wide .result) (omega arith) (omega arith) (at .loop .inv .0) (at .loop .inv .1) (omega arith) (w .wide .ensures) in
-    (omega arith, simp length-take (omega arith))
+    (omega arith, omega arith, simp length-take (omega arith))
 
 same-length : tie.Need-same-length Inv-loop μ-loop
 same-length c = c .before .before .before .before .before .before .before .loop .inv .0
