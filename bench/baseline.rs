@@ -1,28 +1,39 @@
 //! The library's algorithms in Rust, for comparison: unchecked indexes, no allocation, the same areas of the work slice.
 
-const FIRST: usize = 2048;
-const CLOSE: usize = 4096;
-const STACK: usize = 6144;
-const LINKS: usize = 8192;
-const TABLE: usize = 11520;
-const WORK: usize = 16384;
+pub const FIRST: usize = 2048;
+pub const CLOSE: usize = 4096;
+pub const STACK: usize = 6144;
+pub const LINKS: usize = 8192;
+pub const TABLE: usize = 11520;
+pub const WORK: usize = 16384;
+
+/// Number, place, count and chair, as the library answers them.
+pub type Answer = (u32, u64, u64, u32);
+
+pub fn done(count: usize, chair: u16) -> Answer {
+    (0, 0, count as u64, chair as u32)
+}
+
+pub fn refused(number: u32, place: usize) -> Answer {
+    (number, place as u64, 0, 0)
+}
 
 #[inline(always)]
-fn at(s: &[u32], i: usize) -> u32 {
+pub fn at(s: &[u32], i: usize) -> u32 {
     unsafe { *s.get_unchecked(i) }
 }
 
 #[inline(always)]
-fn put(s: &mut [u32], i: usize, x: u32) {
+pub fn put<T>(s: &mut [T], i: usize, x: T) {
     unsafe { *s.get_unchecked_mut(i) = x }
 }
 
 #[inline(always)]
-fn part(s: &[u32], from: usize, to: usize) -> &[u32] {
+pub fn part(s: &[u32], from: usize, to: usize) -> &[u32] {
     unsafe { s.get_unchecked(from..to) }
 }
 
-fn smaller(x: &[u32], y: &[u32]) -> bool {
+pub fn smaller(x: &[u32], y: &[u32]) -> bool {
     let (m, n) = (x.len(), y.len());
     let short = if m < n { m } else { n };
     let pairs = short / 2;
@@ -47,7 +58,7 @@ fn smaller(x: &[u32], y: &[u32]) -> bool {
     m < n
 }
 
-fn before(s: &[u32], i: usize, j: usize, k: usize) -> bool {
+pub fn before(s: &[u32], i: usize, j: usize, k: usize) -> bool {
     let (a, b) = (at(s, i), at(s, j));
     if a != b {
         return a < b;
@@ -55,7 +66,7 @@ fn before(s: &[u32], i: usize, j: usize, k: usize) -> bool {
     smaller(part(s, i + 1, j), part(s, j + 1, j + k))
 }
 
-fn merge(work: &mut [u32], n: usize, i: usize) -> usize {
+pub fn merge(work: &mut [u32], n: usize, i: usize) -> usize {
     let mut j = i + 1;
     while j < n {
         let k = at(work, FIRST + j) as usize;
@@ -69,7 +80,7 @@ fn merge(work: &mut [u32], n: usize, i: usize) -> usize {
     j
 }
 
-fn ends(work: &mut [u32], n: usize) {
+pub fn ends(work: &mut [u32], n: usize) {
     let mut i = n;
     while 0 < i {
         i -= 1;
@@ -79,12 +90,12 @@ fn ends(work: &mut [u32], n: usize) {
     }
 }
 
-fn bucket(x: u32, y: u32) -> usize {
+pub fn bucket(x: u32, y: u32) -> usize {
     let h = x as u64 * 1640531527 + y as u64 * 1013904243;
     (h / 2097152 % 1024) as usize
 }
 
-fn find(rules: &[u32], links: &[u32], n: usize, x: u32, y: u32) -> usize {
+pub fn find(rules: &[u32], links: &[u32], n: usize, x: u32, y: u32) -> usize {
     let mut r = at(links, bucket(x, y)) as usize;
     while 0 < r {
         let k = 2 * r - 2;
@@ -96,10 +107,10 @@ fn find(rules: &[u32], links: &[u32], n: usize, x: u32, y: u32) -> usize {
     n
 }
 
-fn push(work: &mut [u32], n: usize, d: usize, x: u32, y: u32) -> usize {
+pub fn push(work: &mut [u32], n: usize, d: usize, x: u32, y: u32) -> usize {
     let r = find(part(work, TABLE, 16128), part(work, LINKS, TABLE), n, x, y);
-    put(work, STACK + d, r as u32);
     if r < n {
+        put(work, STACK + d, r as u32);
         return n;
     }
     put(work, TABLE + 2 * n, x);
@@ -108,10 +119,11 @@ fn push(work: &mut [u32], n: usize, d: usize, x: u32, y: u32) -> usize {
     let old = at(work, b);
     put(work, LINKS + 1024 + n, old);
     put(work, b, n as u32 + 1);
+    put(work, STACK + d, n as u32);
     n + 1
 }
 
-fn number(work: &mut [u32], len: usize) -> usize {
+pub fn number(work: &mut [u32], len: usize) -> usize {
     let (mut n, mut d, mut i) = (0, 0, 0);
     while i < len {
         let x = at(work, i);
@@ -129,30 +141,35 @@ fn number(work: &mut [u32], len: usize) -> usize {
     n
 }
 
-fn clear(s: &mut [u32]) {
-    for x in s {
+pub fn clear(work: &mut [u32], from: usize, to: usize) {
+    for x in unsafe { work.get_unchecked_mut(from..to) } {
         *x = 0;
     }
 }
 
-/// The table of a text: number, place and count as the library answers them.
+/// The table of the n ranks at the front, in the table area. Answers the number of words.
+pub fn build_table(work: &mut [u32], n: usize, chair: u16) -> usize {
+    ends(work, n);
+    clear(work, LINKS, LINKS + 1024);
+    let m = 2 * number(work, n);
+    put(work, TABLE + 1, (3 << 30) + chair as u32);
+    m
+}
+
+/// The table of a text.
 #[inline(never)]
-pub fn build(text: &[u8], chair: u16, work: &mut [u32], result: &mut [u32]) -> (u32, u64, u64) {
+pub fn build(text: &[u8], chair: u16, work: &mut [u32], result: &mut [u32]) -> Answer {
     if 2047 < text.len() {
-        return (1, 0, 0);
+        return refused(1, 0);
     }
     if work.len() < WORK {
-        return (4, 0, 0);
+        return refused(4, 0);
     }
-    let n = text.len() + 1;
     put(work, 0, 0);
     for (i, &b) in text.iter().enumerate() {
         put(work, 1 + i, b as u32 + 1);
     }
-    ends(work, n);
-    clear(unsafe { work.get_unchecked_mut(LINKS..LINKS + 1024) });
-    let m = 2 * number(work, n);
-    put(work, TABLE + 1, (3 << 30) + chair as u32);
+    let m = build_table(work, text.len() + 1, chair);
     let short = result.len() < m;
     if !short {
         let mut i = 0;
@@ -161,10 +178,10 @@ pub fn build(text: &[u8], chair: u16, work: &mut [u32], result: &mut [u32]) -> (
             i += 1;
         }
     }
-    clear(unsafe { work.get_unchecked_mut(..WORK) });
+    clear(work, 0, WORK);
     if short {
-        (9, m as u64, 0)
+        refused(9, m)
     } else {
-        (0, 0, m as u64)
+        done(m, 0)
     }
 }

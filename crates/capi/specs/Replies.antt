@@ -1,6 +1,6 @@
--- The outcome that a reply stands for.
-use Rattle.definitions.specs.Services.{Outcome}
+-- A reply's four numbers, each under its own name.
+use Rattle.definitions.specs.Services.{Numbers}
 use Rattle.capi.specs.declared.Reply.{Reply}
 
-unfoldable pub replyOutcome : Reply → Outcome
-replyOutcome r = record { number = r .number; place = r .place; count = r .count; chair = r .chair }
+unfoldable pub replyNumbers : Reply → Numbers
+replyNumbers r = record { number = r .number; place = r .place; count = r .count; chair = r .chair }

@@ -8,12 +8,14 @@ use lib.ListN.{length, drop, getD, replicate}
 use lib.Dec.{eqb}
 use Rattle.definitions.specs.declared.Order.the-variants.{Unsigned}
 use Rattle.definitions.specs.declared.Answer.{Answer}
+use Rattle.definitions.specs.declared.Reading.{Reading}
+use Rattle.definitions.specs.declared.Reading.the-variants as reading
 use Rattle.definitions.specs.declared.Answer.the-variants.{Done, Refused}
 use Rattle.definitions.specs.Words.{every, below, least, placed, same, begins, lexlt, lyndon, cutOf}
 use Rattle.definitions.specs.Grammar.{leftOf, rightOf, word, split, lyndonTree, indexOf, meet, visit, order, ruleOf, rulesOf}
 use Rattle.definitions.specs.Table.{rankOf, byteOf, numberOfRank, rankOfNumber, marked, wordOf, kindOf, numberOf, ruleWords, words, tableOf, badFirst, badSecond, badWord, stringOf, strings, ruleString, spelled, textOf, chairOf, isDrive, isChair, isTable}
 use Rattle.definitions.specs.Occurrences.{occurrences, notGreaterAtDifference, isLive, liveCuts, patternCuts}
-use Rattle.definitions.specs.Services.{Outcome, Service, firstMet, outcome, outcomeOf, resultAfter, cleared, workAfter, tableChecks, patternChecks, buildService, checkService, readService, extractService, countService, locateService, cutsService}
+use Rattle.definitions.specs.Services.{Outcome, numbersOf, readingOutcome, Service, firstMet, outcome, outcomeOf, resultAfter, cleared, workAfter, tableChecks, patternChecks, buildService, checkService, readService, extractService, countService, locateService, cutsService}
 
 abbrev pub a : ℕ
 a = 97
@@ -58,10 +60,12 @@ pub data Sample : Type 0 where
   clears : Service → Bool → Sample
   -- the answer stands for this number, place and count
   answers : Answer → ℕ → ℕ → ℕ → Sample
+  -- the same of an answer to reading, with the chair number
+  reads : Reading → ℕ → ℕ → ℕ → ℕ → Sample
 
 -- an outcome's parts
 unfoldable pub parts : Outcome → List ℕ
-parts r = r .number ∷ r .place ∷ r .count ∷ r .chair ∷ []
+parts r = let n = numbersOf r in n .number ∷ n .place ∷ n .count ∷ n .chair ∷ []
 
 unfoldable pub holds : Sample → Bool
 holds (rules text n) =
@@ -78,6 +82,7 @@ holds (clears s b) =
     let w = workAfter s (replicate 16385 7) in
     eqb (length w) 16385 && (eqb (getD w 0 7) (cond b 0 7) && (eqb (getD w 16383 7) (cond b 0 7) && eqb (getD w 16384 7) 7))
 holds (answers r number place count) = same (parts (outcomeOf r)) (number ∷ place ∷ count ∷ 0 ∷ [])
+holds (reads r number place count chair) = same (parts (readingOutcome r)) (number ∷ place ∷ count ∷ chair ∷ [])
 
 unfoldable pub all : List Sample → Bool
 all [] = true
@@ -113,12 +118,17 @@ samples =
     ∷ ends (checkService Unsigned [] 16383) 4 0 0 0
     ∷ ends (checkService Unsigned (drop 1 ofAbab) 16384) 5 0 0 0
     ∷ ends (checkService Unsigned (drop 2 ofAbab) 16384) 6 5 0 0
+    ∷ ends (checkService Unsigned (0x101 ∷ 0xC0000000 ∷ []) 16384) 6 0 0 0
+    ∷ ends (checkService Unsigned (0x100 ∷ 0xC0000000 ∷ []) 16384) 7 0 0 0
+    ∷ ends (checkService Unsigned (0x000 ∷ 0xC0010000 ∷ []) 16384) 6 1 0 0
+    ∷ ends (checkService Unsigned (0x000 ∷ 0xC000FFFF ∷ []) 16384) 0 0 1 0
     ∷ ends (checkService Unsigned otherOrder 16384) 7 0 0 0
     ∷ ends (checkService Unsigned twoRules 16384) 7 0 0 0
     ∷ ends (readService Unsigned ofAbab 16384 4) 0 0 4 40
     ∷ ends (readService Unsigned ofAbab 16384 3) 9 4 0 0
     ∷ ends (extractService Unsigned ofAbab 4 0 16384 0) 0 0 0 0
     ∷ ends (extractService Unsigned ofAbab 4 1 16384 0) 8 0 0 0
+    ∷ ends (extractService Unsigned ofAbab 18446744073709551615 2 16384 2) 8 0 0 0
     ∷ ends (countService Unsigned ofAbab (b ∷ a ∷ []) 16384) 0 0 1 0
     ∷ ends (countService Unsigned [] [] 0) 2 0 0 0
     ∷ ends (locateService Unsigned (tableOf Unsigned (a ∷ a ∷ a ∷ a ∷ []) 0) (a ∷ a ∷ []) 16384 2) 9 3 0 0
@@ -135,9 +145,11 @@ samples =
     ∷ clears (buildService Unsigned abab 40 16385 11) true
     ∷ answers (Done 5) 0 0 5
     ∷ answers (Refused 6 5) 6 5 0
+    ∷ reads (reading.Done 5 40) 0 0 5 40
+    ∷ reads (reading.Refused 6 5) 6 5 0 0
     ∷ []
 
 -- every sample holds
 pub samples-hold : all samples ≡ true
-unfolding holds all samples parts every below least placed same begins lexlt lyndon cutOf leftOf rightOf word split lyndonTree indexOf meet visit order ruleOf rulesOf rankOf byteOf numberOfRank rankOfNumber marked wordOf kindOf numberOf ruleWords words tableOf badFirst badSecond badWord stringOf strings ruleString spelled textOf chairOf isDrive isChair isTable occurrences notGreaterAtDifference isLive liveCuts patternCuts firstMet outcome outcomeOf resultAfter cleared workAfter tableChecks patternChecks buildService checkService readService extractService countService locateService cutsService
+unfolding holds all samples parts numbersOf readingOutcome every below least placed same begins lexlt lyndon cutOf leftOf rightOf word split lyndonTree indexOf meet visit order ruleOf rulesOf rankOf byteOf numberOfRank rankOfNumber marked wordOf kindOf numberOf ruleWords words tableOf badFirst badSecond badWord stringOf strings ruleString spelled textOf chairOf isDrive isChair isTable occurrences notGreaterAtDifference isLive liveCuts patternCuts firstMet outcome outcomeOf resultAfter cleared workAfter tableChecks patternChecks buildService checkService readService extractService countService locateService cutsService
 samples-hold = refl

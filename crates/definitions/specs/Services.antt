@@ -17,18 +17,22 @@ use Rattle.definitions.specs.Occurrences.{occurrences, patternCuts}
 
 -- ---- outcomes
 
--- number: 0 on success, else the refusal's; place; count: the number that success gives, 0 in a refusal; chair: what reading adds, else 0
-pub record Outcome : Type 0 where
+pub data Outcome : Type 0 where
+  -- success: the number that it gives, and the chair number, which reading adds; 0 elsewhere
+  done : ℕ → ℕ → Outcome
+  -- a refusal: its number and place
+  refused : ℕ → ℕ → Outcome
+
+-- an outcome as four numbers, for interfaces without enums: number is 0 on success alone
+pub record Numbers : Type 0 where
   pub number : ℕ
   pub place : ℕ
   pub count : ℕ
   pub chair : ℕ
 
-abbrev pub done : ℕ → ℕ → Outcome
-done count chair = record { number = 0; place = 0; count = count; chair = chair }
-
-abbrev pub refused : ℕ → ℕ → Outcome
-refused number place = record { number = number; place = place; count = 0; chair = 0 }
+unfoldable pub numbersOf : Outcome → Numbers
+numbersOf (done count chair) = record { number = 0; place = 0; count = count; chair = chair }
+numbersOf (refused number place) = record { number = number; place = place; count = 0; chair = 0 }
 
 -- the outcome that each answer stands for
 unfoldable pub outcomeOf : Answer → Outcome
@@ -95,8 +99,9 @@ patternTooLong p = check (ltb 2047 (length p)) 3 0 false
 abbrev pub workTooShort : ℕ → Check
 workTooShort n = check (ltb n 16384) 4 0 false
 
-abbrev pub tableLength : List ℕ → Check
-tableLength t = check (eqb (length t) 0 || (eqb (length t % 2) 1 || ltb 4608 (length t))) 5 0 false
+-- of a table of n words
+abbrev pub tableLength : ℕ → Check
+tableLength n = check (eqb n 0 || (eqb (n % 2) 1 || ltb 4608 n)) 5 0 false
 
 abbrev pub hasBadWord : List ℕ → Check
 hasBadWord t = let i = least (badWord t) (length t) in check (ltb i (length t)) 6 i false
@@ -104,8 +109,9 @@ hasBadWord t = let i = least (badWord t) (length t) in check (ltb i (length t)) 
 abbrev pub notATable : Order → List ℕ → Check
 notATable o t = check (not (isTable o t)) 7 0 true
 
-abbrev pub rangePastEnd : List ℕ → ℕ → ℕ → Check
-rangePastEnd text start count = check (ltb (length text) (start + count)) 8 0 true
+-- in a drive of n samples
+abbrev pub rangePastEnd : ℕ → ℕ → ℕ → Check
+rangePastEnd n start count = check (ltb n (start + count)) 8 0 true
 
 abbrev pub resultTooShort : ℕ → ℕ → Check
 resultTooShort needed n = check (ltb n needed) 9 needed true
@@ -114,7 +120,7 @@ resultTooShort needed n = check (ltb n needed) 9 needed true
 
 -- what a table that is handed over must pass
 unfoldable pub tableChecks : Order → List ℕ → ℕ → List Check
-tableChecks o t n = workTooShort n ∷ tableLength t ∷ hasBadWord t ∷ notATable o t ∷ []
+tableChecks o t n = workTooShort n ∷ tableLength (length t) ∷ hasBadWord t ∷ notATable o t ∷ []
 
 unfoldable pub patternChecks : List ℕ → List Check
 patternChecks p = patternEmpty p ∷ patternTooLong p ∷ []
@@ -139,7 +145,7 @@ readService o t n m = writes (tableChecks o t n) m (textOf o t) (chairOf t)
 -- read the part of a drive that begins at start and has count samples
 unfoldable pub extractService : Order → List ℕ → ℕ → ℕ → ℕ → ℕ → Service
 extractService o t start count n m =
-    writes (tableChecks o t n ++ (rangePastEnd (textOf o t) start count ∷ [])) m (take count (drop start (textOf o t))) 0
+    writes (tableChecks o t n ++ (rangePastEnd (length (textOf o t)) start count ∷ [])) m (take count (drop start (textOf o t))) 0
 
 -- count the occurrences of a pattern
 unfoldable pub countService : Order → List ℕ → List ℕ → ℕ → Service

@@ -2,3 +2,4 @@ pub mod Compare
 pub mod Place
 pub mod Merging
 pub mod Areas
+pub mod Turns

@@ -1,6 +1,6 @@
-// Where each area of the work slice begins. Build and check:
+// Where each area of the work slice begins, while a table is built, checked or read:
 //
-//     SYM    0      ranks of the marked text          2048 words
+//     0             ranks of the marked text          2048 words
 //     FIRST  2048   length of the longest Lyndon word 2048
 //     CLOSE  4096   joins that close behind a symbol  2048
 //     STACK  6144   rules                             2048
@@ -23,3 +23,10 @@ pub const CHAIR: usize = 11521;
 pub const LINKS_OF_RULES: usize = 9216;
 // The words of the work slice that the services use.
 pub const WORK: usize = 16384;
+
+// The kinds of words, in their top two bits: 0 a symbol, 1 a left half, 2 a right half, 3 what stands beside a symbol.
+pub const KIND_1: u32 = 1073741824;
+
+pub const KIND_2: u32 = 2147483648;
+
+pub const KIND_3: u32 = 3221225472;

@@ -6,7 +6,7 @@ use Prim.Native.Nat.{ℕ, suc, _+_, _-_, _*_, _≤_}
 use native.Mathlib.Omega.{arith}
 use lib.ListN.{length, take, drop}
 use Rattle.definitions.specs.declared.Order.{Order}
-use Rattle.definitions.specs.Grammar.{order}
+use Rattle.definitions.specs.Grammar.{order as orderOf}
 use Rattle.definitions.specs.Table.{marked, tableOf}
 use Rattle.lists.specs.Parts.{part}
 use Rattle.lyndon.specs.Forest.{longests}
@@ -26,13 +26,21 @@ pub record Loaded (o : Order) (text : List ℕ) (chair : ℕ) (w : List ℕ) : T
   pub first : part 2048 (suc (length text)) w ≡ longests (marked o text)
   pub table : part 11520 (length (tableOf o text chair)) w ≡ tableOf o text chair
 
+-- some text is loaded
+pub record Ready (w : List ℕ) : Type 0 where
+  pub order : Order
+  pub text : List ℕ
+  pub chair : ℕ
+  pub stored : Stored text chair
+  pub loaded : Loaded order text chair w
+
 -- the words of the table that is loaded
-pub loaded-words : (o : Order) (text w : List ℕ) (chair r : ℕ) → Stored text chair → Loaded o text chair w → r ≡ length (order (marked o text))
+pub loaded-words : (o : Order) (text w : List ℕ) (chair r : ℕ) → Stored text chair → Loaded o text chair w → r ≡ length (orderOf (marked o text))
     → take (11520 + 2 * r - 11520) (drop 11520 w) ≡ tableOf o text chair
 unfolding part
 loaded-words o text w chair r k l e =
     let size : 11520 + 2 * r - 11520 ≡ length (tableOf o text chair) = omega (arith, table-length o text chair k) in
     ap (λ (n : ℕ). take n (drop 11520 w)) size ∙ l .table
 
-pub rules-most : (o : Order) (text : List ℕ) (chair r : ℕ) → Stored text chair → r ≡ length (order (marked o text)) → r ≤ 2304
+pub rules-most : (o : Order) (text : List ℕ) (chair r : ℕ) → Stored text chair → r ≡ length (orderOf (marked o text)) → r ≤ 2304
 rules-most o text chair r k e = omega (arith, order-most o text chair k)

@@ -3,19 +3,20 @@
 use definitions::Order;
 use ends::layout::CHAIR;
 use ends::layout::CLOSE;
+use ends::layout::KIND_1;
+use ends::layout::KIND_2;
+use ends::layout::KIND_3;
 use ends::layout::LINKS;
 use ends::layout::LINKS_OF_RULES;
 use ends::layout::STACK;
 use ends::layout::TABLE;
 use ends::layout::TABLE_END;
 use slices::put;
-use slices::wide;
 ghost use mathlib.Core.Path.{_≡_};
-ghost use Prim.Native.Nat.{ℕ, _+_, _-_, _*_, _≤_, _<_};
-ghost use lib.ListN.{length, getD, set};
+ghost use Prim.Native.Nat.{ℕ, _+_, _-_, _≤_, _<_};
+ghost use lib.ListN.{length, getD};
 ghost use Rattle.lists.specs.Newest.{newest, hasWords};
 ghost use Rattle.lists.specs.Parts.{part};
-ghost use Rattle.lyndon.specs.Rules.{find, intern};
 ghost use Rattle.lyndon.specs.Closings.{push, joins};
 ghost use Rattle.lyndon.specs.Reading.{Stored};
 ghost use Rattle.dict.specs.Dictionary.{Dict};
@@ -23,13 +24,6 @@ ghost use Rattle.definitions.specs.Grammar.{order as orderOf};
 ghost use Rattle.definitions.specs.Table.{marked, numberOfRank};
 ghost use Rattle.grammar.specs.Areas.{Rules, Holds, Pushes, Joins, Steps, Numbers, Below, added, stepped, numbered};
 ghost use Rattle.grammar.specs.Loaded.{Marked, Loaded};
-
-// The kinds of words, in their top two bits.
-const KIND_1: u32 = 1073741824;
-
-const KIND_2: u32 = 2147483648;
-
-const KIND_3: u32 = 3221225472;
 
 // How many rules there are, and how many stand on the stack.
 pub struct Counts {

@@ -1,5 +1,2 @@
-pub mod Answers
 pub mod Fronts
-pub mod Decisions
-pub mod Building
-pub mod Shaping
+pub mod Readings

@@ -1,21 +1,29 @@
 // The services: each checks what it is handed in the paper's order, and does its work or refuses with number and place.
 // What it answers and what every lent slice holds afterwards is given by its definition, from the inputs alone.
+mod reads;
+
+use checks::accepts;
+use checks::result_fits;
+use checks::shaped;
+use checks::text_fits;
+use checks::work_fits;
 use definitions::Answer;
 use definitions::Order;
 use ends::layout::TABLE;
 use ends::layout::WORK;
+pub use reads::extract;
+pub use reads::read;
 ghost use mathlib.Core.Path.{_≡_};
-ghost use mathlib.Core.Bool.{cond, not};
-ghost use Prim.Native.Nat.{_+_, _*_, _/_, _≤_, _<_};
+ghost use mathlib.Core.Bool.{cond};
+ghost use Prim.Native.Nat.{_+_, _*_, _/_, _≤_};
 ghost use lib.ListN.{length};
 ghost use lib.Dec.{ltb};
 ghost use Rattle.definitions.specs.declared.Order.the-variants.{Unsigned};
 ghost use Rattle.definitions.specs.Words.{placed};
 ghost use Rattle.definitions.specs.Table.{tableOf};
-ghost use Rattle.definitions.specs.Services.{outcomeOf, outcome, resultAfter, workAfter, cleared, textTooLong, workTooShort, resultTooShort, hasBadWord, notATable, buildService, checkService};
-ghost use Rattle.definitions.specs.declared.Answer.the-variants.{Done, Refused};
+ghost use Rattle.definitions.specs.Services.{outcomeOf, outcome, resultAfter, workAfter, cleared, resultTooShort, notATable, buildService, checkService};
 ghost use Rattle.lyndon.specs.Shapes.{Shaped};
-ghost use Rattle.index.specs.Checks.{checked, answered, lengthCheck, shapeChecks};
+ghost use Rattle.checks.specs.Checks.{checked};
 
 // Builds the table of a text and a chair number. Refuses by 1, 4, 9; success answers the number of words.
 pub fn build(text: &[u8], chair: u16, work: &mut [u32], result: &mut [u32]) -> Answer
@@ -52,7 +60,7 @@ fn build_checked(
     a
 }
 
-// The same in 16,384 words, which are left as they are then.
+// The same in 16,384 words, which are not cleared here.
 fn build_in(order: Order, text: &[u8], chair: u16, work: &mut [u32], result: &mut [u32]) -> Answer
     requires { ⌜ (length (now text) ≤ 2047) × (16384 ≤ length (now work)) ⌝ }
     ensures { λ r. ⌜ r ≡ checked (resultTooShort (length (tableOf order (now (text .entry)) chair)) (length (now (result .entry)))) (length (tableOf order (now (text .entry)) chair)) ⌝ }
@@ -81,21 +89,21 @@ pub fn check(table: &[u32], work: &mut [u32]) -> Answer
     ensures work { λ _. ⌜ now (work .exit) ≡ workAfter (checkService Unsigned (now (table .entry)) (length (now (work .entry)))) (now (work .entry)) ⌝ }
 {
     let a = shaped(table, work.len());
-    let Answer::Done(_) = a else {
+    let Answer::Done(rules) = a else {
         return a;
     };
-    check_shaped(Order::Unsigned, table, work)
+    check_shaped(Order::Unsigned, table, rules, work)
 }
 
-// The same, once length and words are known to be in shape and the work slice to fit.
-fn check_shaped(order: Order, table: &[u32], work: &mut [u32]) -> Answer
+// The same, once length and words are known to be in shape and the work slice to fit. Success answers the number of rules, which is handed on.
+fn check_shaped(order: Order, table: &[u32], rules: usize, work: &mut [u32]) -> Answer
     requires { ⌜ Shaped (now table) × (length (now table) ≤ 4608) × (16384 ≤ length (now work)) ⌝ }
-    ensures { λ r. ⌜ r ≡ checked (notATable order (now (table .entry))) (length (now (table .entry)) / 2) ⌝ }
+    ensures { λ r. ⌜ r ≡ checked (notATable order (now (table .entry))) rules ⌝ }
     ensures { λ _. ⌜ now (work .exit) ≡ cleared (now (work .entry)) ⌝ }
 {
     let accepted = tables::load(order, table, &mut work[0..WORK]);
     clear_front(work);
-    accepts(accepted, table.len() / 2)
+    accepts(accepted, rules)
 }
 
 // Clears the words that the services use.
@@ -104,89 +112,4 @@ fn clear_front(work: &mut [u32])
     ensures { λ _. ⌜ now (work .exit) ≡ cleared (now (work .entry)) ⌝ }
 {
     slices::clear(&mut work[0..WORK]);
-}
-
-// ---- checks
-
-fn text_fits(text: &[u8]) -> Answer
-    ensures { λ r. ⌜ r ≡ checked (textTooLong (now (text .entry))) (length (now (text .entry))) ⌝ }
-{
-    if 2047 < text.len() {
-        Answer::Refused(1, 0)
-    } else {
-        Answer::Done(text.len())
-    }
-}
-
-fn work_fits(n: usize) -> Answer
-    ensures { λ r. ⌜ r ≡ checked (workTooShort n) n ⌝ }
-{
-    if n < WORK {
-        Answer::Refused(4, 0)
-    } else {
-        Answer::Done(n)
-    }
-}
-
-fn result_fits(needed: usize, n: usize) -> Answer
-    ensures { λ r. ⌜ r ≡ checked (resultTooShort needed n) needed ⌝ }
-{
-    if n < needed {
-        Answer::Refused(9, needed)
-    } else {
-        Answer::Done(needed)
-    }
-}
-
-// What can be said of a table before anything is written: refusals 4, 5, 6.
-fn shaped(table: &[u32], n: usize) -> Answer
-    ensures { λ r. ⌜ r ≡ answered (shapeChecks (now (table .entry)) n) (length (now (table .entry)) / 2) ⌝ }
-{
-    let short = work_fits(n);
-    let Answer::Done(_) = short else {
-        return short;
-    };
-    let size = length_fits(table.len());
-    let Answer::Done(_) = size else {
-        return size;
-    };
-    words_fit(table)
-}
-
-fn length_fits(n: usize) -> Answer
-    ensures { λ r. ⌜ r ≡ checked (lengthCheck n) n ⌝ }
-{
-    if n == 0 {
-        return Answer::Refused(5, 0);
-    }
-    if n % 2 == 1 {
-        return Answer::Refused(5, 0);
-    }
-    if 4608 < n {
-        return Answer::Refused(5, 0);
-    }
-    Answer::Done(n)
-}
-
-fn words_fit(table: &[u32]) -> Answer
-    requires { ⌜ length (now table) ≡ 2 * (length (now table) / 2) ⌝ }
-    ensures { λ r. ⌜ r ≡ checked (hasBadWord (now (table .entry))) (length (now (table .entry)) / 2) ⌝ }
-{
-    let i = tables::bad_word(table);
-    if i < table.len() {
-        Answer::Refused(6, i)
-    } else {
-        Answer::Done(table.len() / 2)
-    }
-}
-
-// Whether a table is accepted, as an answer.
-fn accepts(accepted: bool, rules: usize) -> Answer
-    ensures { λ r. ⌜ r ≡ cond (not accepted) (Refused 7 0) (Done rules) ⌝ }
-{
-    if accepted {
-        Answer::Done(rules)
-    } else {
-        Answer::Refused(7, 0)
-    }
 }

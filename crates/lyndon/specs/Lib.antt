@@ -16,3 +16,4 @@ pub mod Cuts
 pub mod Joins
 pub mod Pairs
 pub mod Shapes
+pub mod Back

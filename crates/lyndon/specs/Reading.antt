@@ -135,6 +135,10 @@ accepted-table o t e =
     spells : Bool
     spells = same (tableOf o (textOf o t) (chairOf t)) t
 
+-- what it spells is the marked drive
+pub accepted-spelled : (o : Order) (t : List ℕ) → isTable o t ≡ true → spelled o t ≡ marked o (textOf o t)
+accepted-spelled o t e = ap (spelled o) (sym (accepted-table o t e)) ∙ table-spelled o (textOf o t) (chairOf t) (accepted-stored o t e)
+
 pub accepted : (o : Order) (t : List ℕ)
     → (isTable o t ≡ true) ↔ ((text : List ℕ) × (chair : ℕ) × Stored text chair × (t ≡ tableOf o text chair))
 accepted o t = (
@@ -151,7 +155,7 @@ table-injective o x y c d h k e = (
 
 -- so it passes the checks of refusals 5, 6 and 7 exactly when it is the table of some drive and chair number
 abbrev pub Passes : Order → List ℕ → Type 0
-Passes o t = (tableLength t .met ≡ false) × (hasBadWord t .met ≡ false) × (notATable o t .met ≡ false)
+Passes o t = (tableLength (length t) .met ≡ false) × (hasBadWord t .met ≡ false) × (notATable o t .met ≡ false)
 
 stored-passes : (o : Order) (text : List ℕ) (chair : ℕ) → Stored text chair → Passes o (tableOf o text chair)
 stored-passes o text chair ok =

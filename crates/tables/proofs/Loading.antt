@@ -15,7 +15,7 @@ use Rattle.definitions.specs.Table.{rankOf, byteOf, marked, tableOf, spelled, t
 use Rattle.lists.specs.Members.{at-in, in-at, in-map}
 use Rattle.lists.specs.Parts.{part-length, part-at}
 use Rattle.lyndon.specs.Ranks.{Bytes, rank-of-byte, byte-range, rank-range, is-drive, marked-length}
-use Rattle.lyndon.specs.Reading.{Stored, accepted-stored, accepted-table, table-spelled}
+use Rattle.lyndon.specs.Reading.{Stored, accepted-stored, accepted-spelled}
 use Rattle.lyndon.specs.Shapes.{string-ranks, chair-small}
 use Rattle.grammar.specs.Loaded.{Marked, Loaded, loaded-words, rules-most}
 use Rattle.tables.specs.Expansion.{Front, Rooted}
@@ -51,9 +51,6 @@ unfolding marked
 marked-first o text = refl
 
 -- ---- an accepted table
-
-accepted-spelled : (o : Order) (t : List ℕ) → isTable o t ≡ true → spelled o t ≡ marked o (textOf o t)
-accepted-spelled o t e = ap (spelled o) (sym (accepted-table o t e)) ∙ table-spelled o (textOf o t) (chairOf t) (accepted-stored o t e)
 
 not-accepted : (o : Order) (t : List ℕ) → (isTable o t ≡ true → ⊥) → false ≡ isTable o t
 not-accepted o t h = go (isTable o t) refl
@@ -102,20 +99,31 @@ module _ (o : Order) (t w : List ℕ) (n : ℕ) (r : Rooted o t w n) where
     unfolding chairOf
     text-stored = record { short = omega (arith, text-size, r .most); bytes = text-bytes .1; chairs = chair-small t (r .shaped) }
 
-    unfoldable pub rooted-marked : Marked o n (chairOf t) w
-    rooted-marked =
-        record { text = textOf o t; stored = text-stored; size = sym text-size; front = r .whole ∙ sym (text-bytes .0); long = r .long }
+    -- so the front is a marked text; c is the chair number as it was read
+    unfoldable pub rooted-marked : (c : ℕ) → c ≡ chairOf t → Marked o n c w
+    rooted-marked c e =
+        record { text = textOf o t; stored = subst (Stored (textOf o t)) (sym e) text-stored; size = sym text-size; front = r .whole ∙ sym (text-bytes .0); long = r .long }
 
     -- comparing decides
-    pub compared : (b : Bool) → b ≡ same (tableOf o (textOf o t) (chairOf t)) t → b ≡ isTable o t
+    compared : (b : Bool) → b ≡ same (tableOf o (textOf o t) (chairOf t)) t → b ≡ isTable o t
     unfolding isTable isChair
     compared b e =
         rw (is-drive (textOf o t) (text-stored .short) (text-stored .bytes), le-leb (chairOf t) 65535 (omega (arith, text-stored .chairs))) e
 
-    -- what is compared is the table made again
-    pub rebuilt : (v : List ℕ) (k : ℕ) (b : Bool) → Loaded o (textOf o t) (chairOf t) v → k ≡ length (order (marked o (textOf o t)))
-        → b ≡ same (take (11520 + 2 * k - 11520) (drop 11520 v)) t → b ≡ isTable o t
-    rebuilt v k b l h e = compared b (e ∙ ap (λ (x : List ℕ). same x t) (loaded-words o (textOf o t) v (chairOf t) k text-stored l h))
+    -- the table is made again: it has k rules, and comparing it decides
+    pub record Remade (v : List ℕ) (k : ℕ) : Type 0 where
+      pub most : k ≤ 2304
+      pub loaded : Loaded o (textOf o t) (chairOf t) v
+      pub decides : (b : Bool) → b ≡ same (take (11520 + 2 * k - 11520) (drop 11520 v)) t → b ≡ isTable o t
 
-    pub rebuilt-most : (k : ℕ) → k ≡ length (order (marked o (textOf o t))) → k ≤ 2304
-    rebuilt-most k h = rules-most o (textOf o t) (chairOf t) k text-stored h
+    pub remade : (v : List ℕ) (k c : ℕ) → c ≡ chairOf t
+        → ((m : Marked o n c w) → Loaded o (m .text) c v × (k ≡ length (order (marked o (m .text))))) → Remade v k
+    unfolding rooted-marked
+    remade v k c e h =
+        let (l, q) = h (rooted-marked c e) in
+        let m : Loaded o (textOf o t) (chairOf t) v = subst (λ (d : ℕ). Loaded o (textOf o t) d v) e l in
+        record {
+          most = rules-most o (textOf o t) (chairOf t) k text-stored q;
+          loaded = m;
+          decides = λ b g. compared b (g ∙ ap (λ (x : List ℕ). same x t) (loaded-words o (textOf o t) v (chairOf t) k text-stored m q));
+        }

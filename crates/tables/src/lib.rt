@@ -2,80 +2,23 @@
 //
 // The root is expanded with an explicit stack of pending right halves. Each pending rule spells at least one symbol, so the walk stops
 // at 2,048 symbols written and pending together: a table whose strings double at each rule costs no more than any other.
+mod bad_words;
+
+pub use bad_words::bad_word;
 use definitions::Order;
+use ends::layout::KIND_1;
 use ends::layout::STACK;
 use ends::layout::TABLE;
 use slices::put;
 use slices::wide;
 ghost use mathlib.Core.Path.{_≡_};
 ghost use mathlib.Core.Bool.{true, false};
-ghost use Prim.Native.Nat.{ℕ, _+_, _*_, _/_, _≤_, _<_};
-ghost use lib.ListN.{length, getD, set};
-ghost use Rattle.definitions.specs.Words.{least};
-ghost use Rattle.definitions.specs.Table.{rankOfNumber, badFirst, badSecond, badWord, textOf, chairOf, isTable};
+ghost use Prim.Native.Nat.{_+_, _/_, _≤_, _<_};
+ghost use lib.ListN.{length, set};
+ghost use Rattle.definitions.specs.Table.{rankOfNumber, textOf, chairOf, isTable};
 ghost use Rattle.grammar.specs.Loaded.{Loaded};
 ghost use Rattle.lyndon.specs.Shapes.{Shaped};
 ghost use Rattle.tables.specs.Expansion.{Expanded, Steps, Stepped, Front, Rooted, afterSymbol, afterPair};
-
-// The lowest index of a bad word, the table's length if there is none.
-pub fn bad_word(table: &[u32]) -> usize
-    requires { ⌜ length (now table) ≡ 2 * (length (now table) / 2) ⌝ }
-    ensures { λ r. ⌜ r ≡ least (badWord (now (table .entry))) (length (now (table .entry))) ⌝ }
-{
-    let n = table.len() / 2;
-    let mut r = 0;
-    while r < n {
-        let x = table[2 * r];
-        let y = table[2 * r + 1];
-        if bad_first(r, x) {
-            return 2 * r;
-        }
-        if bad_second(r, x, y) {
-            return 2 * r + 1;
-        }
-        r += 1;
-    }
-    table.len()
-}
-
-// Whether x is bad as the first word of rule r.
-fn bad_first(r: usize, x: u32) -> bool
-    ensures { λ b. ⌜ b ≡ badFirst r x ⌝ }
-{
-    let kind = x / 1073741824;
-    let number = x % 1073741824;
-    if kind == 0 {
-        return 256 < number;
-    }
-    if kind == 1 {
-        return r <= wide(number);
-    }
-    true
-}
-
-// Whether y is bad as the second word of rule r, after x.
-fn bad_second(r: usize, x: u32, y: u32) -> bool
-    ensures { λ b. ⌜ b ≡ badSecond r x y ⌝ }
-{
-    let kind = x / 1073741824;
-    let number = y % 1073741824;
-    if kind == 1 {
-        if y / 1073741824 == 2 {
-            return r <= wide(number);
-        }
-        return true;
-    }
-    if kind == 0 {
-        if y / 1073741824 == 3 {
-            if r == 0 {
-                return 65535 < number;
-            }
-            return 0 < number;
-        }
-        return true;
-    }
-    false
-}
 
 // Loads a table: whether it is the table of a drive and chair number. If it is, the work slice holds what building leaves there.
 pub fn load(order: Order, table: &[u32], work: &mut [u32]) -> bool
@@ -97,7 +40,7 @@ fn rebuild(order: Order, table: &[u32], work: &mut [u32], n: usize) -> bool
     if !is_marked(work, n) {
         return false;
     }
-    let chair = (table[1] % 1073741824) as u16;
+    let chair = chair_of(table);
     let end = TABLE + 2 * grammar::build_table(order, n, chair, work);
     slices::equal(&work[TABLE..end], table)
 }
@@ -162,10 +105,10 @@ fn expand_rule(order: Order, table: &[u32], work: &mut [u32], p: Place) -> Turn
     let r = p.rule;
     let x = table[2 * r];
     let y = table[2 * r + 1];
-    if x < 1073741824 {
+    if x < KIND_1 {
         write_symbol(order, work, p, x)
     } else {
-        leave_right(work, p, x % 1073741824, y % 1073741824)
+        leave_right(work, p, x % KIND_1, y % KIND_1)
     }
 }
 
@@ -210,4 +153,12 @@ fn rank_of_number(order: Order, number: u32) -> u32
     match order {
         Order::Unsigned => number,
     }
+}
+
+// The chair number of a table.
+pub fn chair_of(table: &[u32]) -> u16
+    requires { ⌜ Shaped (now table) ⌝ }
+    ensures { λ r. ⌜ r ≡ chairOf (now (table .entry)) ⌝ }
+{
+    (table[1] % KIND_1) as u16
 }

@@ -1,6 +1,7 @@
 -- `sirbolta_build` is `build`.
-use mathlib.Core.Path.{_∙_}
+use mathlib.Core.Path.{_∙_, ap}
 use borrow.Author.Needs.{needs}
+use Rattle.definitions.specs.Services.{numbersOf}
 use Rattle.capi.proofs.sirbolta_build.Statement.{statement}
 use Rattle.capi.proofs.sirbolta_build.Tie as tie
 
@@ -19,7 +20,7 @@ same-length-2 c = search needs
 returns : tie.Need-returns
 returns c =
     let b = c .before .before .before .before .before in
-    (c .replied .ensures ∙ b .build .ensures .0, (b .build .ensures .1 .0, b .build .ensures .1 .1))
+    (c .replied .ensures ∙ ap numbersOf (b .build .ensures .0), (b .build .ensures .1 .0, b .build .ensures .1 .1))
 
 pub sirbolta-build-spec : {M : Type 1} → statement M
 sirbolta-build-spec =

@@ -1,5 +1,5 @@
 -- `before` compares two words that stand side by side: their first symbols, and then what follows these.
-use mathlib.Core.Path.{_≡_, sym, _∙_}
+use mathlib.Core.Path.{sym, _∙_}
 use borrow.Author.Needs.{needs}
 use native.Mathlib.Omega.{arith}
 use Rattle.lists.specs.Parts.{part}

@@ -8,7 +8,8 @@ use lib.ListN.{length, length-take, getD}
 use borrow.Author.Tests.{not-true, not-false}
 use Rattle.definitions.specs.Grammar.{Tree, leaf}
 use Rattle.lists.specs.Parts.{part, part-length}
-use Rattle.ends.proofs.Merging.{Merging, starts, turn, turned-last}
+use Rattle.ends.proofs.Merging.{Merging, starts}
+use Rattle.ends.proofs.Turns.{turn, turned-last}
 use Rattle.ends.proofs.merge.Statement.{statement}
 use Rattle.ends.proofs.merge.Tie as tie
 

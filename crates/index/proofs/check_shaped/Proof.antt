@@ -1,8 +1,6 @@
 -- `check_shaped` loads the table in the front of the work slice, clears it, and answers whether the table is accepted.
 use mathlib.Core.Path.{_∙_, ap}
 use mathlib.Core.Bool.{cond, not}
-use Prim.Native.Nat.{_/_}
-use lib.ListN.{length}
 use Rattle.definitions.specs.declared.Answer.{Answer}
 use Rattle.definitions.specs.declared.Answer.the-variants.{Done, Refused}
 use Rattle.index.proofs.Fronts.{work-cleared}
@@ -37,7 +35,7 @@ returns c =
     let b = l .before .before .before .before in
     let s = b .before .before .before .before in
     let a = s .args in (
-      c .accepts .ensures ∙ ap {B = Answer} (λ x. cond (not x) (Refused 7 0) (Done (length (a .table .now) / 2))) (b .load .ensures .0),
+      c .accepts .ensures ∙ ap {B = Answer} (λ x. cond (not x) (Refused 7 0) (Done (a .rules))) (b .load .ensures .0),
       work-cleared (a .work .now) (b .load .last .1 .1 .0) (l .clear-front .last .0) (s .pre .2) (b .load .kept .1 .1 .0) (l .clear-front .ensures),
     )
 

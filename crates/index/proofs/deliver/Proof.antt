@@ -2,7 +2,7 @@
 use lib.ListN.{length}
 use borrow.Author.Tests.{ltb-false}
 use Rattle.definitions.specs.Services.{resultTooShort}
-use Rattle.index.proofs.Answers.{refused-met, done-met}
+use Rattle.checks.proofs.Answers.{refused-met, done-met}
 use borrow.Author.Needs.{needs}
 use Rattle.index.proofs.deliver.Statement.{statement}
 use Rattle.index.proofs.deliver.Tie as tie

@@ -5,9 +5,7 @@ use Prim.Native.Nat.{ℕ}
 use native.Mathlib.Omega.{arith}
 use borrow.Author.Needs.{needs}
 use borrow.Author.Tests.{not-true, not-false}
-use Rattle.definitions.specs.Table.{numberOf, chairOf}
-use Rattle.lyndon.specs.Shapes.{chair-small}
-use Rattle.tables.proofs.Loading.{unmarked, rooted-marked, rebuilt, rebuilt-most}
+use Rattle.tables.proofs.Loading.{unmarked, rooted-marked, remade}
 use Rattle.tables.proofs.rebuild.Statement.{statement}
 use Rattle.tables.proofs.rebuild.Tie as tie
 
@@ -24,45 +22,39 @@ returns c =
     let a = s .args in
     (unmarked (a .order) (a .table .now) (a .work .now) (a .n) (s .pre) (m .is-marked .ensures .1 (not-true (m .is-marked .result) (c .if1 .taken))), λ (e : false ≡ true). let z : _≡_ {A = ℕ} 0 1 = cc in absurd (omega arith))
 
-shared-slice-read-chair : tie.Need-shared-slice-read-chair
-shared-slice-read-chair c = search needs
-
-cast-chair : tie.Need-cast-chair
-unfolding numberOf
-cast-chair c =
-    let s = c .before .before .before .before .before .before in
-    omega (arith, chair-small (s .args .table .now) (s .pre .shaped))
+chair-of-requires : tie.Need-chair-of-requires
+chair-of-requires c κs = search needs
 
 build-table-requires : tie.Need-build-table-requires
-unfolding chairOf numberOf
 build-table-requires c κs =
-    let e = c .before .before in
+    let h = c .before in
+    let e = h .before in
     let m = e .before in
     let s = m .before .before .before .before in
     let a = s .args in
-    rooted-marked (a .order) (a .table .now) (a .work .now) (a .n) (s .pre) (m .is-marked .ensures .0 (not-false (m .is-marked .result) (e .if1 .left)))
+    rooted-marked (a .order) (a .table .now) (a .work .now) (a .n) (s .pre) (m .is-marked .ensures .0 (not-false (m .is-marked .result) (e .if1 .left))) (h .chair-of .result) (h .chair-of .ensures)
 
 mul-end : tie.Need-mul-end
-unfolding chairOf numberOf rooted-marked
 mul-end c =
     let b = c .before .before in
-    let e = b .before .before .before in
+    let h = b .before .before in
+    let e = h .before in
     let m = e .before in
     let s = m .before .before .before .before in
     let a = s .args in
-    let (l, r) = b .build-table .ensures (rooted-marked (a .order) (a .table .now) (a .work .now) (a .n) (s .pre) (m .is-marked .ensures .0 (not-false (m .is-marked .result) (e .if1 .left)))) in
-    omega (arith, rebuilt-most (a .order) (a .table .now) (a .work .now) (a .n) (s .pre) (m .is-marked .ensures .0 (not-false (m .is-marked .result) (e .if1 .left))) (b .build-table .result) r)
+    let made = remade (a .order) (a .table .now) (a .work .now) (a .n) (s .pre) (m .is-marked .ensures .0 (not-false (m .is-marked .result) (e .if1 .left))) (b .build-table .last .1 .1 .1 .0) (b .build-table .result) (h .chair-of .result) (h .chair-of .ensures) (b .build-table .ensures) in
+    omega (arith, made .most)
 
 add-end : tie.Need-add-end
-unfolding chairOf numberOf rooted-marked
 add-end c =
     let b = c .before .before in
-    let e = b .before .before .before in
+    let h = b .before .before in
+    let e = h .before in
     let m = e .before in
     let s = m .before .before .before .before in
     let a = s .args in
-    let (l, r) = b .build-table .ensures (rooted-marked (a .order) (a .table .now) (a .work .now) (a .n) (s .pre) (m .is-marked .ensures .0 (not-false (m .is-marked .result) (e .if1 .left)))) in
-    omega (arith, rebuilt-most (a .order) (a .table .now) (a .work .now) (a .n) (s .pre) (m .is-marked .ensures .0 (not-false (m .is-marked .result) (e .if1 .left))) (b .build-table .result) r)
+    let made = remade (a .order) (a .table .now) (a .work .now) (a .n) (s .pre) (m .is-marked .ensures .0 (not-false (m .is-marked .result) (e .if1 .left))) (b .build-table .last .1 .1 .1 .0) (b .build-table .result) (h .chair-of .result) (h .chair-of .ensures) (b .build-table .ensures) in
+    omega (arith, made .most)
 
 sub-equal : tie.Need-sub-equal
 sub-equal c = search needs
@@ -71,15 +63,15 @@ part-equal-start : tie.Need-part-equal-start
 part-equal-start c = search needs
 
 part-equal-end : tie.Need-part-equal-end
-unfolding chairOf numberOf rooted-marked
 part-equal-end c =
     let b = c .before .before .before in
-    let e = b .before .before .before in
+    let h = b .before .before in
+    let e = h .before in
     let m = e .before in
     let s = m .before .before .before .before in
     let a = s .args in
-    let (l, r) = b .build-table .ensures (rooted-marked (a .order) (a .table .now) (a .work .now) (a .n) (s .pre) (m .is-marked .ensures .0 (not-false (m .is-marked .result) (e .if1 .left)))) in
-    omega (arith, rebuilt-most (a .order) (a .table .now) (a .work .now) (a .n) (s .pre) (m .is-marked .ensures .0 (not-false (m .is-marked .result) (e .if1 .left))) (b .build-table .result) r, l .long)
+    let made = remade (a .order) (a .table .now) (a .work .now) (a .n) (s .pre) (m .is-marked .ensures .0 (not-false (m .is-marked .result) (e .if1 .left))) (b .build-table .last .1 .1 .1 .0) (b .build-table .result) (h .chair-of .result) (h .chair-of .ensures) (b .build-table .ensures) in
+    omega (arith, made .most, made .loaded .long)
 
 equal-requires : tie.Need-equal-requires
 equal-requires c κs = search needs
@@ -88,15 +80,15 @@ same-length-2 : tie.Need-same-length-2
 same-length-2 c = search needs
 
 returns-2 : tie.Need-returns-2
-unfolding chairOf numberOf rooted-marked
 returns-2 c =
     let b = c .before .before .before .before .before in
-    let e = b .before .before .before in
+    let h = b .before .before in
+    let e = h .before in
     let m = e .before in
     let s = m .before .before .before .before in
     let a = s .args in
-    let (l, r) = b .build-table .ensures (rooted-marked (a .order) (a .table .now) (a .work .now) (a .n) (s .pre) (m .is-marked .ensures .0 (not-false (m .is-marked .result) (e .if1 .left)))) in
-    (rebuilt (a .order) (a .table .now) (a .work .now) (a .n) (s .pre) (m .is-marked .ensures .0 (not-false (m .is-marked .result) (e .if1 .left))) (b .build-table .last .1 .1 .1 .0) (b .build-table .result) (c .equal .result) l r (c .equal .ensures), λ q. l)
+    let made = remade (a .order) (a .table .now) (a .work .now) (a .n) (s .pre) (m .is-marked .ensures .0 (not-false (m .is-marked .result) (e .if1 .left))) (b .build-table .last .1 .1 .1 .0) (b .build-table .result) (h .chair-of .result) (h .chair-of .ensures) (b .build-table .ensures) in
+    (made .decides (c .equal .result) (c .equal .ensures), λ q. made .loaded)
 
 pub rebuild-spec : {M : Type 1} → statement M
 rebuild-spec =
@@ -105,8 +97,7 @@ rebuild-spec =
     is-marked-requires
     same-length
     returns
-    shared-slice-read-chair
-    cast-chair
+    chair-of-requires
     build-table-requires
     mul-end
     add-end

@@ -1,0 +1,4 @@
+pub mod Answers
+pub mod Decisions
+pub mod Serving
+pub mod Shaping

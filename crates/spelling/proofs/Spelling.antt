@@ -1,0 +1,178 @@
+-- What rules spell as bytes: a symbol its byte, a pair what its halves spell (`spelled-symbol`, `spelled-pair`); the root of an
+-- accepted table spells the drive (`root-bytes`).
+use mathlib.Core.Path.{_≡_, refl, sym, _∙_, ap, ap₂}
+use mathlib.Core.Bool.{true}
+use mathlib.Core.List.{List, [], _∷_, _++_, map, map-append, append-assoc, append-nil, List·Memᴰ·head as here, List·Memᴰ·tail as there}
+use Prim.Native.Nat.{ℕ, zero, suc, _+_, _-_, _*_, _/_, _%_, _≤_, _<_}
+use native.Mathlib.Omega.{arith}
+use native.Mathlib.Numerals.{add-one}
+use lib.ListN.{length, take, drop, getD, set, length-append, length-drop, length-map, drop-of-length-le}
+use lib.Seq.{drop-at, take-at, drop-drop, take-all, take-suc, length-take-le}
+use Rattle.definitions.specs.declared.Order.{Order}
+use Rattle.definitions.specs.declared.Order.the-variants.{Unsigned}
+use Rattle.definitions.specs.Words.{placed}
+use Rattle.definitions.specs.Table.{rankOf, byteOf, rankOfNumber, marked, kindOf, numberOf, ruleString, spelled, textOf, isTable}
+use Rattle.lists.specs.Lists.{placed-length, placed-more}
+use Rattle.lyndon.specs.Ranks.{Bytes, rank-range, byte-of-rank}
+use Rattle.lyndon.specs.Reading.{accepted-stored}
+use Rattle.lyndon.specs.Shapes.{Shaped, Shape, one, two, shape, symbol-string, pair-string}
+use Rattle.spelling.specs.Spelling.{samples, symbolBytes, ruleBytes}
+use Rattle.lyndon.specs.Reading.{accepted-spelled}
+
+-- ---- samples of strings
+
+samples-append : (o : Order) (x y : List ℕ) → samples o (x ++ y) ≡ samples o x ++ samples o y
+unfolding samples
+samples-append o [] y = refl
+samples-append o (zero ∷ x) y = samples-append o x y
+samples-append o (suc r ∷ x) y = ap (λ (l : List ℕ). byteOf o (suc r) ∷ l) (samples-append o x y)
+
+samples-cons : (o : Order) (r : ℕ) (s : List ℕ) → 0 < r → samples o (r ∷ s) ≡ byteOf o r ∷ samples o s
+unfolding samples
+samples-cons o zero s h = absurd (omega arith)
+samples-cons o (suc r) s h = refl
+
+symbol-samples : (o : Order) (n : ℕ) → n < 257 → samples o (rankOfNumber o n ∷ []) ≡ symbolBytes n
+unfolding samples rankOfNumber symbolBytes
+symbol-samples o zero h = refl
+symbol-samples o (suc b) h =
+    samples-cons o (rankOf o b) [] (rank-range o b (omega arith) .0)
+    ∙ ap (λ (x : ℕ). x ∷ []) (byte-of-rank o b (omega arith))
+
+ranks-samples : (o : Order) (text : List ℕ) → Bytes text → samples o (map (rankOf o) text) ≡ text
+unfolding samples
+ranks-samples o [] h = refl
+ranks-samples o (b ∷ text) h =
+    samples-cons o (rankOf o b) (map (rankOf o) text) (rank-range o b (h b (here refl)) .0)
+    ∙ ap₂ {C = List ℕ} (λ x l. x ∷ l) (byte-of-rank o b (h b (here refl))) (ranks-samples o text (λ x m. h x (there m)))
+
+marked-samples : (o : Order) (text : List ℕ) → Bytes text → samples o (marked o text) ≡ text
+unfolding samples marked
+marked-samples o text h = ranks-samples o text h
+
+-- ---- rules
+
+-- rule r spells what u spells and then what v spells
+pub record Halves (t : List ℕ) (r u v : ℕ) : Type 0 where
+  pub left : u < r
+  pub right : v < r
+  pub bytes : ruleBytes t r ≡ ruleBytes t u ++ ruleBytes t v
+
+pub halves-size : (t : List ℕ) (r u v : ℕ) → Halves t r u v → length (ruleBytes t r) ≡ length (ruleBytes t u) + length (ruleBytes t v)
+halves-size t r u v h = ap length (h .bytes) ∙ length-append (ruleBytes t u) (ruleBytes t v)
+
+module _ (t : List ℕ) (s : Shaped t) where
+  symbol-in : (o : Order) (r : ℕ) → r < length t / 2 → kindOf (getD t (2 * r) 0) ≡ 0 → numberOf (getD t (2 * r) 0) < 257
+      → samples o (ruleString o t r) ≡ symbolBytes (numberOf (getD t (2 * r) 0))
+  symbol-in o r h k n = ap (samples o) (symbol-string o t r h k) ∙ symbol-samples o (numberOf (getD t (2 * r) 0)) n
+
+  pair-in : (o : Order) (r : ℕ) → r < length t / 2 → kindOf (getD t (2 * r) 0) ≡ 1 → numberOf (getD t (2 * r) 0) < r → numberOf (getD t (2 * r + 1) 0) < r
+      → samples o (ruleString o t r) ≡ samples o (ruleString o t (numberOf (getD t (2 * r) 0))) ++ samples o (ruleString o t (numberOf (getD t (2 * r + 1) 0)))
+  pair-in o r h k u v =
+      ap (samples o) (pair-string o t r h k u v)
+      ∙ samples-append o (ruleString o t (numberOf (getD t (2 * r) 0))) (ruleString o t (numberOf (getD t (2 * r + 1) 0)))
+
+  -- the bytes of a rule are the same in each order
+  below-samples : (o : Order) (b r : ℕ) → r < b → r < length t / 2 → samples o (ruleString o t r) ≡ ruleBytes t r
+  unfolding ruleBytes
+  below-samples o zero r l h = absurd (omega arith)
+  below-samples o (suc b) r l h = go (shape t r s h) (λ q m. below-samples o b q (omega arith) (omega arith))
+    where
+      go : Shape t r → ((q : ℕ) → q < r → samples o (ruleString o t q) ≡ samples Unsigned (ruleString Unsigned t q)) → samples o (ruleString o t r) ≡ samples Unsigned (ruleString Unsigned t r)
+      go (one k n x y) ih = symbol-in o r h k n ∙ sym (symbol-in Unsigned r h k n)
+      go (two k n x y) ih =
+          pair-in o r h k n y
+          ∙ ap₂ {C = List ℕ} (λ a b. a ++ b) (ih (numberOf (getD t (2 * r) 0)) n) (ih (numberOf (getD t (2 * r + 1) 0)) y)
+          ∙ sym (pair-in Unsigned r h k n y)
+
+  pub rule-samples : (o : Order) (r : ℕ) → r < length t / 2 → samples o (ruleString o t r) ≡ ruleBytes t r
+  rule-samples o r h = below-samples o (suc r) r (omega arith) h
+
+  module _ (r : ℕ) (h : r < length t / 2) where
+    -- a rule whose first word is a symbol's
+    pub spelled-symbol : getD t (2 * r) 0 < 1073741824 → (getD t (2 * r) 0 < 257) × (ruleBytes t r ≡ symbolBytes (getD t (2 * r) 0))
+    unfolding numberOf kindOf ruleBytes
+    spelled-symbol l = go (shape t r s h)
+      where
+        same : getD t (2 * r) 0 % 1073741824 ≡ getD t (2 * r) 0
+        same = omega arith
+
+        go : Shape t r → (getD t (2 * r) 0 < 257) × (samples Unsigned (ruleString Unsigned t r) ≡ symbolBytes (getD t (2 * r) 0))
+        go (one k n x y) = (omega arith, symbol-in Unsigned r h k n ∙ ap symbolBytes same)
+        go (two k n x y) = absurd (omega arith)
+
+    -- and one whose first word is a left half's
+    pub spelled-pair : 1073741824 ≤ getD t (2 * r) 0 → Halves t r (getD t (2 * r) 0 % 1073741824) (getD t (2 * r + 1) 0 % 1073741824)
+    unfolding numberOf kindOf ruleBytes
+    spelled-pair l = go (shape t r s h)
+      where
+        go : Shape t r → Halves t r (getD t (2 * r) 0 % 1073741824) (getD t (2 * r + 1) 0 % 1073741824)
+        go (one k n x y) = absurd (omega arith)
+        go (two k n x y) = record { left = n; right = y; bytes = pair-in Unsigned r h k n y }
+
+-- the root of an accepted table
+pub root-bytes : (o : Order) (t : List ℕ) → Shaped t → isTable o t ≡ true → ruleBytes t (length t / 2 - 1) ≡ textOf o t
+unfolding spelled
+root-bytes o t s e =
+    sym (rule-samples t s o (length t / 2 - 1) (omega (arith, s .even, s .filled)))
+    ∙ ap (samples o) (accepted-spelled o t e)
+    ∙ marked-samples o (textOf o t) (accepted-stored o t e .bytes)
+
+-- ---- a symbol in a slice
+
+pub mark-placed : (n : ℕ) (old : List ℕ) → n ≡ 0 → (0 ≡ length (symbolBytes n)) × (old ≡ placed (symbolBytes n) old)
+unfolding symbolBytes placed
+mark-placed n old e = rw e (refl, refl)
+
+pub sample-size : (n : ℕ) → (n ≡ 0 → ⊥) → 1 ≡ length (symbolBytes n)
+unfolding symbolBytes
+sample-size zero h = absurd (h refl)
+sample-size (suc b) h = refl
+
+pub sample-placed : (n : ℕ) (old : List ℕ) → (n ≡ 0 → ⊥) → 0 < length old → set old 0 (n - 1) ≡ placed (symbolBytes n) old
+unfolding symbolBytes placed
+sample-placed zero old h l = absurd (h refl)
+sample-placed (suc b) [] h l = absurd (omega arith)
+sample-placed (suc b) (a ∷ old) h l =
+    let e : suc b - 1 ≡ b = omega arith in
+    rw e
+
+-- ---- the halves of a pair, one behind the other in a slice
+
+pub placed-halves : (u v old w z : List ℕ) (n : ℕ) → n ≡ length u → length u + length v ≤ length old → w ≡ placed u old
+    → z ≡ placed v (take (length w - n) (drop n w)) → take n w ++ (z ++ drop (length w - n) (drop n w)) ≡ placed (u ++ v) old
+unfolding placed
+placed-halves u v old w z n e h f g =
+    let behind : drop n w ≡ drop (length u) old = ap (drop n) f ∙ drop-at u (drop (length u) old) n (sym e) in
+    let before : take n w ≡ u = ap (take n) f ∙ take-at u (drop (length u) old) n (sym e) in
+    let size : length w ≡ length old = ap length f ∙ placed-length u old (omega arith) in
+    let rest : length (drop n w) ≤ length w - n = omega (arith, length-drop n w) in
+    ap₂ {C = List ℕ} (λ a b. a ++ b) before
+    (ap₂ {C = List ℕ} (λ a b. a ++ b) (g ∙ ap (placed v) (take-all (length w - n) (drop n w) rest ∙ behind)) (drop-of-length-le (drop n w) rest)
+    ∙ append-nil (placed v (drop (length u) old)))
+    ∙ sym (append-assoc u v (drop (length v) (drop (length u) old)))
+    ∙ ap (λ (l : List ℕ). (u ++ v) ++ l) (drop-drop (length v) (length u) old ∙ ap (λ (k : ℕ). drop k old) (sym (length-append u v)))
+
+-- ---- samples of ranks in a slice
+
+pub samples-more : (o : Order) (ranks old w : List ℕ) (i : ℕ) → i < length ranks → length ranks ≤ length old → w ≡ placed (map (byteOf o) (take i ranks)) old
+    → set w i (byteOf o (getD ranks i 0)) ≡ placed (map (byteOf o) (take (i + 1) ranks)) old
+samples-more o ranks old w i h k e =
+    ap (λ (l : List ℕ). set l i x) e
+    ∙ ap (λ (n : ℕ). set (placed front old) n x) (sym size)
+    ∙ sym (placed-more front old x (omega (arith, size)))
+    ∙ ap (λ (l : List ℕ). placed l old) more
+  where
+    x : ℕ
+    x = byteOf o (getD ranks i 0)
+
+    front : List ℕ
+    front = map (byteOf o) (take i ranks)
+
+    size : length (map (byteOf o) (take i ranks)) ≡ i
+    size = length-map (take i ranks) (byteOf o) ∙ length-take-le i ranks (omega arith)
+
+    more : map (byteOf o) (take i ranks) ++ (byteOf o (getD ranks i 0) ∷ []) ≡ map (byteOf o) (take (i + 1) ranks)
+    more =
+        sym (map-append (byteOf o) (take i ranks) (getD ranks i 0 ∷ []))
+        ∙ ap (map (byteOf o)) (sym (take-suc ranks i 0 h) ∙ ap (λ (n : ℕ). take n ranks) (sym (add-one i)))

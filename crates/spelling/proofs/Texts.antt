@@ -1,0 +1,138 @@
+-- What is loaded: the length of the text (`loaded-length`), the table whose root spells it (`loaded-root`), and its parts (`loaded-piece`).
+use mathlib.Core.Path.{_≡_, refl, sym, _∙_, ap, ap₂, subst}
+use mathlib.Core.List.{List, [], _∷_, map, append-nil}
+use Prim.Native.Nat.{ℕ, zero, suc, _+_, _-_, _*_, _/_, _≤_, _<_}
+use native.Mathlib.Omega.{arith}
+use lib.ListN.{length, take, drop, getD, length-take, length-drop, length-map}
+use lib.Seq.{getD-take, getD-drop}
+use Rattle.definitions.specs.declared.Order.{Order}
+use Rattle.definitions.specs.Table.{rankOf, byteOf, marked, badWord, tableOf}
+use Rattle.lists.specs.Members.{at-in, in-map, drop-map}
+use Rattle.lists.specs.Numbers.{least-before}
+use Rattle.lists.specs.Parts.{part, part-at, part-part}
+use Rattle.lyndon.specs.Forest.{longest, longests, longest-fits, longest-most}
+use Rattle.lyndon.specs.Ranks.{Bytes, rank-range, bytes-back, slice-bytes, marked-length, marked-lyndon}
+use Rattle.lyndon.specs.Reading.{Stored, table-length, table-filled, table-size, table-no-bad, table-accepted, table-text}
+use Rattle.lyndon.specs.Shapes.{Shaped}
+use Rattle.grammar.specs.Loaded.{Ready}
+use Rattle.spelling.specs.Spelling.{Ranks, ruleBytes}
+use Rattle.spelling.proofs.Spelling.{root-bytes}
+
+-- ---- the length of the text
+
+-- the marked text is its own longest Lyndon word
+whole-longest : (o : Order) (text : List ℕ) → Bytes text → longest (marked o text) ≡ suc (length text)
+whole-longest o text h =
+    omega (
+      arith,
+      longest-fits (marked o text),
+      longest-most (marked o text) (marked o text) [] (sym (append-nil (marked o text))) (marked-lyndon o text h),
+      marked-length o text,
+    )
+
+first-longests : (o : Order) (text : List ℕ) → getD (longests (marked o text)) 0 0 ≡ longest (marked o text)
+unfolding longests marked
+first-longests o text = refl
+
+pub loaded-length : (w : List ℕ) (h : Ready w) → getD w 2048 0 ≡ suc (length (h .text))
+loaded-length w h =
+    sym (part-at 2048 (suc (length (h .text))) w 0 0 (omega arith))
+    ∙ ap (λ (l : List ℕ). getD l 0 0) (h .loaded .first)
+    ∙ first-longests (h .order) (h .text)
+    ∙ whole-longest (h .order) (h .text) (h .stored .bytes)
+
+-- ---- the table and the text that are loaded
+
+stored-shaped : (o : Order) (text : List ℕ) (chair : ℕ) → Stored text chair → Shaped (tableOf o text chair)
+stored-shaped o text chair k =
+    let t = tableOf o text chair in
+    let size = table-length o text chair k in
+    record {
+      good = λ i h. least-before (badWord t) (length t) i (omega (arith, table-no-bad o text chair k));
+      even = omega arith;
+      filled = table-filled o text chair k;
+    }
+
+-- of the n rules in the table area the last spells the text
+pub record Root (rules text : List ℕ) (n : ℕ) : Type 0 where
+  pub shaped : Shaped rules
+  pub some : 0 < n
+  pub most : n ≤ 2304
+  pub low : n - 1 < length rules / 2
+  pub bytes : ruleBytes rules (n - 1) ≡ text
+
+part-taken : (o n : ℕ) (w : List ℕ) → take n (drop o w) ≡ part o n w
+unfolding part
+part-taken o n w = refl
+
+pub loaded-root : (w : List ℕ) (h : Ready w) (n : ℕ) → n ≡ length (tableOf (h .order) (h .text) (h .chair)) / 2
+    → Root (take (11520 + 2 * n - 11520) (drop 11520 w)) (h .text) n
+loaded-root w h n e = subst (λ (l : List ℕ). Root l (h .text) n) (sym words) whole
+  where
+    t : List ℕ
+    t = tableOf (h .order) (h .text) (h .chair)
+
+    words : take (11520 + 2 * n - 11520) (drop 11520 w) ≡ tableOf (h .order) (h .text) (h .chair)
+    words =
+        let size : 11520 + 2 * n - 11520 ≡ length (tableOf (h .order) (h .text) (h .chair)) = omega (arith, table-length (h .order) (h .text) (h .chair) (h .stored)) in
+        ap (λ (k : ℕ). take k (drop 11520 w)) size ∙ part-taken 11520 (length (tableOf (h .order) (h .text) (h .chair))) w ∙ h .loaded .table
+
+    whole : Root (tableOf (h .order) (h .text) (h .chair)) (h .text) n
+    whole =
+        let s = stored-shaped (h .order) (h .text) (h .chair) (h .stored) in
+        record {
+          shaped = s;
+          some = omega (arith, s .even, s .filled);
+          most = omega (arith, table-size (h .order) (h .text) (h .chair) (h .stored));
+          low = omega (arith, s .even, s .filled);
+          bytes =
+              ap (λ (k : ℕ). ruleBytes t (k - 1)) e
+              ∙ root-bytes (h .order) t s (table-accepted (h .order) (h .text) (h .chair) (h .stored))
+              ∙ table-text (h .order) (h .text) (h .chair) (h .stored);
+        }
+
+-- of the ranks at the front, those from 1 + start on are samples: those of a part of the text
+pub record Piece (o : Order) (l piece : List ℕ) (count : ℕ) : Type 0 where
+  pub ranks : Ranks l
+  pub size : length l ≡ count
+  pub bytes : map (byteOf o) l ≡ piece
+
+ranks-piece : (o : Order) (piece : List ℕ) → Bytes piece → Piece o (map (rankOf o) piece) piece (length piece)
+ranks-piece o piece h =
+    record {
+      ranks = λ i k. let (b, m, e) = in-map (rankOf o) (getD (map (rankOf o) piece) i 0) piece (at-in (map (rankOf o) piece) i k) in rw e (rank-range o b (h b m));
+      size = length-map piece (rankOf o);
+      bytes = bytes-back o piece h;
+    }
+
+take-map : (f : ℕ → ℕ) (n : ℕ) (l : List ℕ) → take n (map f l) ≡ map f (take n l)
+take-map f zero l = refl
+take-map f (suc n) [] = refl
+take-map f (suc n) (a ∷ l) = ap {B = List ℕ} (λ m. f a ∷ m) (take-map f n l)
+
+marked-piece : (o : Order) (text : List ℕ) (start count : ℕ) → part (suc start) count (marked o text) ≡ map (rankOf o) (take count (drop start text))
+unfolding part marked
+marked-piece o text start count = ap (take count) (drop-map (rankOf o) start text) ∙ take-map (rankOf o) count (drop start text)
+
+piece-bytes : (text : List ℕ) (start count : ℕ) → Bytes text → start + count ≤ length text → Bytes (take count (drop start text))
+piece-bytes text start count h k =
+    let size : length (take count (drop start text)) ≡ count = simp (length-take, length-drop) (omega arith) in
+    slice-bytes (take count (drop start text)) (λ i l.
+    rw (getD-take count (drop start text) i 0 (omega arith), getD-drop start text i 0) (h (getD text (start + i) 0) (at-in text (start + i) (omega arith))))
+
+pub loaded-piece : (w : List ℕ) (h : Ready w) (start count : ℕ) → start + count ≤ length (h .text)
+    → Piece (h .order) (take (1 + start + count - (1 + start)) (drop (1 + start) w)) (take count (drop start (h .text))) count
+loaded-piece w h start count k =
+    let piece = take count (drop start (h .text)) in
+    let size : length piece ≡ count = simp (length-take, length-drop) (omega arith) in
+    let many : 1 + start + count - (1 + start) ≡ count = omega arith in
+    let next : 1 + start ≡ 0 + suc start = omega arith in
+    let ranks : take (1 + start + count - (1 + start)) (drop (1 + start) w) ≡ map (rankOf (h .order)) piece =
+    ap₂ {C = List ℕ} (λ a b. take a (drop b w)) many next
+    ∙ part-taken (0 + suc start) count w
+    ∙ sym (part-part 0 (suc (length (h .text))) (suc start) count w (omega arith))
+    ∙ ap (part (suc start) count) (h .loaded .ranks)
+    ∙ marked-piece (h .order) (h .text) start count in
+    subst (λ (l : List ℕ). Piece (h .order) l piece count) (sym ranks)
+    (subst (λ (n : ℕ). Piece (h .order) (map (rankOf (h .order)) piece) piece n) size
+    (ranks-piece (h .order) piece (piece-bytes (h .text) start count (h .stored .bytes) k)))

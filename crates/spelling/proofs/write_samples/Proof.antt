@@ -1,0 +1,81 @@
+-- `write_samples` places the bytes of ranks at the front of a slice. The invariant: those of the ranks passed stand there.
+use mathlib.Core.Path.{_≡_, sym, _∙_, refl, ap}
+use mathlib.Core.List.{List, map}
+use Prim.Native.Nat.{ℕ, _≤_, _-_}
+use native.Mathlib.Omega.{arith}
+use lib.ListN.{length, take, set, length-set}
+use lib.Seq.{take-length}
+use Rattle.definitions.specs.Words.{placed}
+use Rattle.definitions.specs.Table.{byteOf}
+use Rattle.lists.specs.Lists.{placed-none}
+use Rattle.spelling.proofs.Spelling.{samples-more}
+use Rattle.spelling.proofs.write_samples.Statement.{statement}
+use Rattle.spelling.proofs.write_samples.Tie as tie
+
+abbrev Inv-loop : tie.InvT-loop
+Inv-loop order ranks result₀ i₀ result i =
+    (i ≤ length ranks) × (length result ≡ length result₀) × (result ≡ placed (map (byteOf order) (take i ranks)) result₀)
+
+abbrev μ-loop : tie.MeasureT-loop
+μ-loop order ranks result₀ i₀ result i = length ranks - i
+
+loop-holds : tie.Need-loop-holds Inv-loop μ-loop
+loop-holds c = (omega arith, refl, sym (placed-none (c .before .before .args .result .now)))
+
+mul-byte-of : tie.Need-mul-byte-of Inv-loop μ-loop
+mul-byte-of c = omega arith
+
+shared-slice-read-byte-of : tie.Need-shared-slice-read-byte-of Inv-loop μ-loop
+shared-slice-read-byte-of c = omega arith
+
+byte-of-requires : tie.Need-byte-of-requires Inv-loop μ-loop
+byte-of-requires c κs = let at = c .before .before in at .before .before .before .pre .0 (at .loop .i) (omega arith)
+
+slice-write-result : tie.Need-slice-write-result Inv-loop μ-loop
+slice-write-result c = omega arith
+
+add-i : tie.Need-add-i Inv-loop μ-loop
+add-i c = omega arith
+
+loop-less : tie.Need-loop-less Inv-loop μ-loop
+loop-less c = omega arith
+
+loop-again : tie.Need-loop-again Inv-loop μ-loop
+loop-again c =
+    let at = c .before .before .before in
+    let a = at .before .before .before .args in
+    let x = c .byte-of .ensures in (
+      omega arith,
+      length-set (at .loop .result) (at .loop .i) (c .byte-of .result) ∙ at .loop .inv .1,
+      ap (λ (b : ℕ). set (at .loop .result) (at .loop .i) b) x
+          ∙ samples-more (a .order) (a .ranks .now) (a .result .now) (at .loop .result) (at .loop .i) (omega arith) (omega arith) (at .loop .inv .2),
+    )
+
+same-length : tie.Need-same-length Inv-loop μ-loop
+same-length c = c .before .loop .inv .1
+
+returns : tie.Need-returns Inv-loop μ-loop
+returns c =
+    let at = c .before in
+    let a = at .before .before .before .args in
+    let e : at .loop .i ≡ length (a .ranks .now) = omega arith in
+    at .loop .inv .2
+    ∙ ap (λ (n : ℕ). placed (map (byteOf (a .order)) (take n (a .ranks .now))) (a .result .now)) e
+    ∙ ap (λ (l : List ℕ). placed (map (byteOf (a .order)) l) (a .result .now)) (take-length (a .ranks .now))
+
+pub write-samples-spec : {M : Type 1} → statement M
+write-samples-spec =
+    tie.close
+    (tie.spec
+    Inv-loop
+    μ-loop
+    loop-holds
+    mul-byte-of
+    shared-slice-read-byte-of
+    byte-of-requires
+    slice-write-result
+    add-i
+    loop-less
+    loop-again
+    same-length
+    returns)

@@ -1,0 +1,41 @@
+//! The library as C sees it.
+#![allow(dead_code)]
+
+#[repr(C)]
+pub struct Reply {
+    pub number: u32,
+    pub chair: u32,
+    pub place: u64,
+    pub count: u64,
+}
+
+extern "C" {
+    pub fn sirbolta_build(
+        text: *const u8,
+        text_len: usize,
+        chair: u16,
+        work: *mut u32,
+        work_len: usize,
+        result: *mut u32,
+        result_len: usize,
+    ) -> Reply;
+    pub fn sirbolta_check(table: *const u32, table_len: usize, work: *mut u32, work_len: usize) -> Reply;
+    pub fn sirbolta_read(
+        table: *const u32,
+        table_len: usize,
+        work: *mut u32,
+        work_len: usize,
+        result: *mut u8,
+        result_len: usize,
+    ) -> Reply;
+    pub fn sirbolta_extract(
+        table: *const u32,
+        table_len: usize,
+        start: usize,
+        length: usize,
+        work: *mut u32,
+        work_len: usize,
+        result: *mut u8,
+        result_len: usize,
+    ) -> Reply;
+}
