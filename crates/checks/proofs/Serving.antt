@@ -101,6 +101,20 @@ passed-both : {a b : List Check} → Passed a → Passed b → Passed (a ++ b)
 passed-both none q = q
 passed-both (more c e p) q = more c e (passed-both p q)
 
+pub passed-parts : (a b : List Check) → Passed (a ++ b) → Passed a × Passed b
+passed-parts [] b p = (none, p)
+passed-parts (c ∷ a) b (more d q p) = let (x, y) = passed-parts a b p in (more c q x, y)
+
+-- what the checks before answer, refusing; and what those behind answer, where none before is met
+pub answered-front : (a b : List Check) (k n x y : ℕ) (r : Answer) → r ≡ answered a k → r ≡ Refused x y → r ≡ answered (a ++ b) n
+answered-front a b k n x y r e f =
+    let (d, i, g) = refused-some a k x y (sym e ∙ f) in
+    e ∙ g ∙ sym (first-decides d (λ c. Refused (c .number) (c .place)) (Done n) (first-before d b i))
+
+pub answered-behind : {a : List Check} (b : List Check) (n : ℕ) (r : Answer) → Passed a → r ≡ answered b n → r ≡ answered (a ++ b) n
+answered-behind b n r none e = e
+answered-behind {a = c ∷ a} b n r (more d q p) e = answered-later c (a ++ b) n r q (answered-behind b n r p e)
+
 -- ---- which checks clear the work slice
 
 -- all of them, or none of them

@@ -11,7 +11,7 @@ use borrow.Author.Tests.{ltb-false, eqb-false, lt-ltb, le-ltb}
 use Rattle.definitions.specs.declared.Answer.the-variants.{Done, Refused}
 use Rattle.definitions.specs.Words.{least}
 use Rattle.definitions.specs.Table.{badWord}
-use Rattle.definitions.specs.Services.{hasBadWord, tableLength}
+use Rattle.definitions.specs.Services.{patternChecks, hasBadWord, tableLength}
 use Rattle.lists.specs.Bools.{contra}
 use Rattle.lists.specs.Numbers.{least-before}
 use Rattle.lyndon.specs.Shapes.{Shaped}
@@ -21,6 +21,16 @@ use Rattle.checks.proofs.Decisions.{met, Passed, none, more}
 
 pub shape-keeps : (t : List ℕ) (n : ℕ) → Clear false (shapeChecks t n)
 shape-keeps t n = (refl, (refl, (refl, refl)))
+
+pub pattern-keeps : (p : List ℕ) → Clear false (patternChecks p)
+unfolding patternChecks
+pattern-keeps p = (refl, (refl, refl))
+
+pub passed-pattern : (p : List ℕ) → Passed (patternChecks p) → (0 < length p) × (length p ≤ 2047)
+unfolding patternChecks
+passed-pattern p (more a e (more b f none)) =
+    let some : length p ≡ 0 → ⊥ = eqb-false (length p) 0 e in
+    (omega arith, ltb-false 2047 (length p) f)
 
 or-none : (a b : Bool) → a || b ≡ false → (a ≡ false) × (b ≡ false)
 or-none true b e = contra refl e

@@ -10,6 +10,7 @@ use Rattle.definitions.specs.declared.Reading.{Reading}
 use Rattle.definitions.specs.declared.Reading.the-variants as reading
 use Rattle.definitions.specs.Words.{placed}
 use Rattle.definitions.specs.Table.{textOf}
+use Rattle.definitions.specs.Occurrences.{occurrences}
 use Rattle.definitions.specs.Services.{Check, firstMet, workTooShort, tableLength, hasBadWord, notATable, rangePastEnd, resultTooShort}
 
 abbrev pub checked : Check → ℕ → Answer
@@ -41,3 +42,7 @@ partChecks text start count m = rangePastEnd (length text) start count ∷ resul
 
 abbrev pub extractChecks : Order → List ℕ → ℕ → ℕ → ℕ → List Check
 extractChecks o t start count m = notATable o t ∷ partChecks (textOf o t) start count m
+
+-- and to list the occurrences of a pattern
+abbrev pub locateChecks : Order → List ℕ → List ℕ → ℕ → List Check
+locateChecks o t p m = notATable o t ∷ resultTooShort (length (occurrences p (textOf o t))) m ∷ []

@@ -3,9 +3,10 @@ use definitions::Answer;
 use ends::layout::WORK;
 ghost use mathlib.Core.Path.{_≡_};
 ghost use mathlib.Core.Bool.{cond, not};
+ghost use mathlib.Core.List.{_++_};
 ghost use Prim.Native.Nat.{_*_, _/_, _<_};
 ghost use lib.ListN.{length};
-ghost use Rattle.definitions.specs.Services.{textTooLong, workTooShort, resultTooShort, hasBadWord, tableLength, rangePastEnd};
+ghost use Rattle.definitions.specs.Services.{textTooLong, patternChecks, workTooShort, resultTooShort, hasBadWord, tableLength, rangePastEnd};
 ghost use Rattle.definitions.specs.declared.Answer.the-variants.{Done, Refused};
 ghost use Rattle.checks.specs.Checks.{checked, answered, shapeChecks};
 
@@ -17,6 +18,19 @@ pub fn text_fits(text: &[u8]) -> Answer
     } else {
         Answer::Done(text.len())
     }
+}
+
+// Refusals 2 and 3.
+pub fn pattern_fits(pattern: &[u8]) -> Answer
+    ensures { λ r. ⌜ r ≡ answered (patternChecks (now (pattern .entry))) (length (now (pattern .entry))) ⌝ }
+{
+    if pattern.len() == 0 {
+        return Answer::Refused(2, 0);
+    }
+    if 2047 < pattern.len() {
+        return Answer::Refused(3, 0);
+    }
+    Answer::Done(pattern.len())
 }
 
 pub fn work_fits(n: usize) -> Answer
@@ -64,6 +78,17 @@ pub fn shaped(table: &[u32], n: usize) -> Answer
         return size;
     };
     words_fit(table)
+}
+
+// What can be said of a pattern and a table before anything is written: refusals 2 to 6.
+pub fn searchable(table: &[u32], pattern: &[u8], n: usize) -> Answer
+    ensures { λ r. ⌜ r ≡ answered (patternChecks (now (pattern .entry)) ++ shapeChecks (now (table .entry)) n) (length (now (table .entry)) / 2) ⌝ }
+{
+    let a = pattern_fits(pattern);
+    let Answer::Done(_) = a else {
+        return a;
+    };
+    shaped(table, n)
 }
 
 fn length_fits(n: usize) -> Answer

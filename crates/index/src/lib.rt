@@ -1,6 +1,7 @@
 // The services: each checks what it is handed in the paper's order, and does its work or refuses with number and place.
 // What it answers and what every lent slice holds afterwards is given by its definition, from the inputs alone.
 mod reads;
+mod searches;
 
 use checks::accepts;
 use checks::result_fits;
@@ -13,6 +14,9 @@ use ends::layout::TABLE;
 use ends::layout::WORK;
 pub use reads::extract;
 pub use reads::read;
+pub use searches::count;
+pub use searches::live_cuts;
+pub use searches::locate;
 ghost use mathlib.Core.Path.{_≡_};
 ghost use mathlib.Core.Bool.{cond};
 ghost use Prim.Native.Nat.{_+_, _*_, _/_, _≤_};

@@ -12,9 +12,11 @@ use lib.Seq.{getD-append-seam}
 use lib.Dec.{ltb, leb, eqb}
 use borrow.Author.Tests.{ltb-true, leb-true, eqb-true, eq-eqb, ne-eqb, not-false}
 use Rattle.definitions.specs.declared.Order.{Order}
-use Rattle.definitions.specs.Table.{rankOfNumber, kindOf, numberOf, badFirst, badSecond, badWord, stringOf, strings, ruleString}
+use Rattle.definitions.specs.Table.{tableOf, rankOfNumber, kindOf, numberOf, badFirst, badSecond, badWord, stringOf, strings, ruleString}
 use Rattle.lists.specs.Bools.{and-left, and-right, or-cases}
+use Rattle.lists.specs.Numbers.{least-before}
 use Rattle.lyndon.specs.Ranks.{rank-range}
+use Rattle.lyndon.specs.Reading.{Stored, table-length, table-filled, table-no-bad}
 
 -- ---- the two kinds of rules
 
@@ -176,3 +178,14 @@ string-ranks o t s r h =
     by-rules o t s (λ x. (a : ℕ) → In a x → a < 257)
     (λ n l a m. rw (in-one m) (number-rank o n l))
     (λ u v p q a m. ⊎-elim (λ x. p a x) (λ x. q a x) (in-append u m)) (suc r) r (omega arith) h
+
+-- the table of a drive is in shape
+pub stored-shaped : (o : Order) (text : List ℕ) (chair : ℕ) → Stored text chair → Shaped (tableOf o text chair)
+stored-shaped o text chair k =
+    let t = tableOf o text chair in
+    let size = table-length o text chair k in
+    record {
+      good = λ i h. least-before (badWord t) (length t) i (omega (arith, table-no-bad o text chair k));
+      even = omega arith;
+      filled = table-filled o text chair k;
+    }

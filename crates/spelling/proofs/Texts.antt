@@ -6,14 +6,13 @@ use native.Mathlib.Omega.{arith}
 use lib.ListN.{length, take, drop, getD, length-take, length-drop, length-map}
 use lib.Seq.{getD-take, getD-drop}
 use Rattle.definitions.specs.declared.Order.{Order}
-use Rattle.definitions.specs.Table.{rankOf, byteOf, marked, badWord, tableOf}
+use Rattle.definitions.specs.Table.{rankOf, byteOf, marked, tableOf}
 use Rattle.lists.specs.Members.{at-in, in-map, drop-map}
-use Rattle.lists.specs.Numbers.{least-before}
 use Rattle.lists.specs.Parts.{part, part-at, part-part}
 use Rattle.lyndon.specs.Forest.{longest, longests, longest-fits, longest-most}
 use Rattle.lyndon.specs.Ranks.{Bytes, rank-range, bytes-back, slice-bytes, marked-length, marked-lyndon}
-use Rattle.lyndon.specs.Reading.{Stored, table-length, table-filled, table-size, table-no-bad, table-accepted, table-text}
-use Rattle.lyndon.specs.Shapes.{Shaped}
+use Rattle.lyndon.specs.Reading.{table-length, table-size, table-accepted, table-text}
+use Rattle.lyndon.specs.Shapes.{Shaped, stored-shaped}
 use Rattle.grammar.specs.Loaded.{Ready}
 use Rattle.spelling.specs.Spelling.{Ranks, ruleBytes}
 use Rattle.spelling.proofs.Spelling.{root-bytes}
@@ -42,16 +41,6 @@ loaded-length w h =
     ∙ whole-longest (h .order) (h .text) (h .stored .bytes)
 
 -- ---- the table and the text that are loaded
-
-stored-shaped : (o : Order) (text : List ℕ) (chair : ℕ) → Stored text chair → Shaped (tableOf o text chair)
-stored-shaped o text chair k =
-    let t = tableOf o text chair in
-    let size = table-length o text chair k in
-    record {
-      good = λ i h. least-before (badWord t) (length t) i (omega (arith, table-no-bad o text chair k));
-      even = omega arith;
-      filled = table-filled o text chair k;
-    }
 
 -- of the n rules in the table area the last spells the text
 pub record Root (rules text : List ℕ) (n : ℕ) : Type 0 where

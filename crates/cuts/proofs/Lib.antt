@@ -1,0 +1,7 @@
+pub mod Differences
+pub mod Runs
+pub mod Starts
+pub mod Scan
+pub mod Samples
+pub mod Lists
+pub mod Flags

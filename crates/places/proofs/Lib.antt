@@ -1,0 +1,4 @@
+pub mod Strings
+pub mod Rules
+pub mod Sizes
+pub mod Starts

@@ -1,0 +1,156 @@
+-- The second pass, rule by rule: a rule that is reached has a right place (`reached`), and so have its halves (`halves-stand`); storing
+-- right places keeps those that are stored (`placing-set`). The root's string is the whole marked text (`place-start`).
+use mathlib.Core.Path.{_≡_, sym, _∙_, ap, subst}
+use mathlib.Core.Logic.{⊎-elim}
+use mathlib.Core.List.{List, _++_}
+use Prim.Native.Nat.{ℕ, suc, _+_, _-_, _≤_, _<_}
+use native.Mathlib.Omega.{arith}
+use lib.ListN.{length, getD, set, length-append}
+use lib.Seq.{getD-set-same, getD-set-other, take-length}
+use Rattle.definitions.specs.declared.Order.{Order}
+use Rattle.definitions.specs.Table.{marked, ruleString}
+use Rattle.lists.specs.Lists.{split-same-left, split-same-right}
+use Rattle.lists.specs.Numbers.{split-lt}
+use Rattle.lists.specs.Parts.{part, part-length, part-append}
+use Rattle.lyndon.specs.Ranks.{marked-length}
+use Rattle.places.specs.Places.{StandsAt, Placed}
+use Rattle.places.specs.Passes.{Source, tableIn, rulesIn, Half, Stands, Sizing, Placing}
+use Rattle.places.proofs.Strings.{root-string, later-half}
+use Rattle.places.proofs.Rules.{Halves, rules-most}
+use Rattle.places.proofs.Sizes.{sizing-set}
+
+-- ---- places of strings
+
+whole-part : (s : List ℕ) → part 0 (length s) s ≡ s
+unfolding part
+whole-part s = take-length s
+
+-- where a pair stands stands its left half, and behind that its right half
+halves-stand : (o : Order) (t s : List ℕ) (r u v x : ℕ) → ruleString o t r ≡ ruleString o t u ++ ruleString o t v → StandsAt o t s r x
+    → StandsAt o t s u x × StandsAt o t s v (x + length (ruleString o t u))
+halves-stand o t s r u v x e p =
+    let size = ap length e ∙ length-append (ruleString o t u) (ruleString o t v) in
+    let fits = p .inside in
+    let front = part-length x (length (ruleString o t u)) s (omega arith) in
+    let both : part x (length (ruleString o t u)) s ++ part (x + length (ruleString o t u)) (length (ruleString o t v)) s ≡ ruleString o t u ++ ruleString o t v =
+    sym (part-append x (length (ruleString o t u)) (length (ruleString o t v)) s)
+    ∙ ap (λ (n : ℕ). part x n s) (sym size)
+    ∙ p .same
+    ∙ e in (
+      record {
+        inside = omega arith;
+        same = split-same-left (part x (length (ruleString o t u)) s) (part (x + length (ruleString o t u)) (length (ruleString o t v)) s) (ruleString o t u) (ruleString o t v) both front;
+      },
+      record {
+        inside = omega arith;
+        same = split-same-right (part x (length (ruleString o t u)) s) (part (x + length (ruleString o t u)) (length (ruleString o t v)) s) (ruleString o t u) (ruleString o t v) both front;
+      },
+    )
+
+-- ---- a right place is stored
+
+module _ (g : Source) (w : List ℕ) (q x : ℕ) (h : 4352 + q < length w) (p : StandsAt (g .order) (tableIn g) (marked (g .order) (g .text)) q x) where
+  stands-stored : Stands g (set w (4352 + q) x) q
+  stands-stored = subst (λ (y : ℕ). StandsAt (g .order) (tableIn g) (marked (g .order) (g .text)) q y) (sym (getD-set-same w (4352 + q) x 0 h)) p
+
+  stands-kept : (r : ℕ) → Stands g w r → Stands g (set w (4352 + q) x) r
+  stands-kept r k = split-lt r q
+      (λ l. other (λ z. omega arith))
+      (λ e. subst (λ (y : ℕ). Stands g (set w (4352 + q) x) y) (sym e) stands-stored)
+      (λ l. other (λ z. omega arith))
+    where
+      other : (4352 + r ≡ 4352 + q → ⊥) → Stands g (set w (4352 + q) x) r
+      other d = subst (λ (y : ℕ). StandsAt (g .order) (tableIn g) (marked (g .order) (g .text)) r y) (sym (getD-set-other w (4352 + q) (4352 + r) x 0 d)) k
+
+placing-set : (g : Source) (w : List ℕ) (n q x : ℕ) → Placing g n w → q < rulesIn g → StandsAt (g .order) (tableIn g) (marked (g .order) (g .text)) q x
+    → Placing g n (set w (4352 + q) x) × Stands g (set w (4352 + q) x) q
+placing-set g w n q x k l p =
+    let most = k .sizing .most in
+    let h : 4352 + q < length w = omega (arith, k .sizing .kept .long) in (
+      record {
+        sizing = sizing-set g w (4352 + q) x (k .sizing) (omega arith) (omega arith);
+        root = stands-kept g w q x h p (rulesIn g - 1) (k .root);
+        halves = λ i r a b c. stands-kept g w q x h p r (k .halves i r a b c);
+      },
+      stands-stored g w q x h p,
+    )
+
+-- ---- the steps
+
+-- a rule is the root or a half of a later one
+reached : (g : Source) (w : List ℕ) (n r : ℕ) → Placing g n w → n ≤ suc r → r < rulesIn g → Stands g w r
+reached g w n r k l h = split-lt (suc r) (rulesIn g)
+    (λ m. let (i, a, b, c) = later-half (g .order) (g .text) (g .chair) (k .sizing .kept .stored) r m in k .halves i r (omega arith) b c)
+    (λ m. let last : rulesIn g - 1 ≡ r = omega arith in subst (λ (y : ℕ). Stands g w y) last (k .root))
+    (λ m. absurd (omega arith))
+
+pub place-symbol : (g : Source) (w : List ℕ) (r : ℕ) → Placing g (r + 1) w → ((q : ℕ) → Half (tableIn g) r q → ⊥) → Placing g r w
+place-symbol g w r k none = record {
+  sizing = k .sizing;
+  root = k .root;
+  halves = λ i q a b c. split-lt i r (λ m. absurd (omega arith)) (λ m. absurd (none q (subst (λ (y : ℕ). Half (tableIn g) y q) m c))) (λ m. k .halves i q (omega arith) b c);
+}
+
+module _ (g : Source) (w : List ℕ) (r u v : ℕ) (k : Placing g (r + 1) w) (h : r < rulesIn g) (p : Halves (g .order) (tableIn g) r u v) where
+  -- the right half's place is no more than the length of the text
+  pub pair-room : getD w (4352 + r) 0 + getD w (2048 + u) 0 ≤ 2048
+  pair-room =
+      let at = reached g w (r + 1) r k (omega arith) h in
+      omega (
+        arith,
+        at .inside,
+        ap length (p .string),
+        length-append (ruleString (g .order) (tableIn g) u) (ruleString (g .order) (tableIn g) v),
+        k .sizing .sizes u (omega (arith, p .left)),
+        marked-length (g .order) (g .text),
+        k .sizing .kept .stored .short,
+      )
+
+  pub place-pair : (z : List ℕ) → z ≡ set (set w (4352 + u) (getD w (4352 + r) 0)) (4352 + v) (getD w (4352 + r) 0 + getD w (2048 + u) 0) → Placing g r z
+  place-pair z e =
+      let x = getD w (4352 + r) 0 in
+      let (a, b) = halves-stand (g .order) (tableIn g) (marked (g .order) (g .text)) r u v x (p .string) (reached g w (r + 1) r k (omega arith) h) in
+      let y = x + getD w (2048 + u) 0 in
+      let c : StandsAt (g .order) (tableIn g) (marked (g .order) (g .text)) v y =
+      subst (λ (m : ℕ). StandsAt (g .order) (tableIn g) (marked (g .order) (g .text)) v (x + m)) (sym (k .sizing .sizes u (omega (arith, p .left)))) b in
+      let w₁ = set w (4352 + u) x in
+      let (k₁, left) = placing-set g w (r + 1) u x k (omega (arith, p .left)) a in
+      let (k₂, right) = placing-set g w₁ (r + 1) v y k₁ (omega (arith, p .right)) c in
+      let most = k .sizing .most in
+      let left₂ = stands-kept g w₁ v y (omega (arith, p .right, k₁ .sizing .kept .long)) c u left in
+      rw e record {
+        sizing = k₂ .sizing;
+        root = k₂ .root;
+        halves = λ i q m n half. split-lt i r
+            (λ l. absurd (omega arith))
+            (λ l. ⊎-elim
+            (λ s. subst (λ (j : ℕ). Stands g (set w₁ (4352 + v) y) j) (sym s) left₂)
+            (λ s. subst (λ (j : ℕ). Stands g (set w₁ (4352 + v) y) j) (sym s) right)
+            (p .only q (subst (λ (j : ℕ). Half (tableIn g) j q) l half)))
+            (λ l. k₂ .halves i q (omega arith) n half);
+      }
+
+-- ---- the beginning and the end
+
+pub place-start : (g : Source) (w v : List ℕ) (rules : ℕ) → rules ≡ rulesIn g → Sizing g rules w → v ≡ set w (4352 + (rules - 1)) 0 → Placing g rules v
+place-start g w v rules e s f =
+    let whole = root-string (g .order) (g .text) (g .chair) (s .kept .stored) in
+    let (some, most) = rules-most g (s .kept .stored) in
+    let size = ap length whole in
+    let front : StandsAt (g .order) (tableIn g) (marked (g .order) (g .text)) (rulesIn g - 1) 0 =
+    record {
+      inside = omega arith;
+      same = ap (λ (n : ℕ). part 0 n (marked (g .order) (g .text))) size ∙ whole-part (marked (g .order) (g .text)) ∙ sym whole;
+    } in
+    rw (f, e) record {
+      sizing = sizing-set g w (4352 + (rulesIn g - 1)) 0 (subst (λ (n : ℕ). Sizing g n w) e s) (omega arith) (omega arith);
+      root = stands-stored g w (rulesIn g - 1) 0 (omega (arith, s .kept .long)) front;
+      halves = λ k r a b c. absurd (omega arith);
+    }
+
+pub place-end : (g : Source) (w : List ℕ) → Placing g 0 w → Placed (g .order) (g .text) (g .chair) w
+place-end g w k = record {
+  kept = k .sizing .kept;
+  sizes = k .sizing .sizes;
+  places = λ r h. reached g w 0 r k (omega arith) h;
+}

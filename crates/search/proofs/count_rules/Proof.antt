@@ -1,0 +1,88 @@
+-- `count_rules` counts rule after rule. The loop's invariant: whatever text is loaded, the rules before r are counted.
+use mathlib.Core.Path.{_≡_, refl, _∙_, subst}
+use Prim.Native.Nat.{ℕ, _-_, _≤_}
+use native.Mathlib.Omega.{arith}
+use lib.ListN.{length}
+use Rattle.search.specs.Searching.{Counting}
+use Rattle.search.proofs.Standing.{rules-most}
+use Rattle.search.proofs.Counting.{Counted, counted-turn}
+use Rattle.search.proofs.count_rules.Statement.{statement}
+use Rattle.search.proofs.count_rules.Tie as tie
+
+abbrev Inv-loop : tie.InvT-loop
+Inv-loop order pattern work₀ rules r₀ work r = (r ≤ rules) × (length work ≡ length work₀) × Counted order pattern rules r work₀ work
+
+abbrev μ-loop : tie.MeasureT-loop
+μ-loop order pattern work₀ rules r₀ work r = rules - r
+
+loop-holds : tie.Need-loop-holds Inv-loop μ-loop
+loop-holds c = (omega arith, refl, λ text chair h e. h)
+
+found-in-requires : tie.Need-found-in-requires Inv-loop μ-loop
+found-in-requires c κs =
+    let at = c .before .before in
+    let s = at .before .before .before in
+    let h = s .pre in
+    record { text = h .text; chair = h .chair; counting = at .loop .inv .2 (h .text) (h .chair) (h .counting) (h .size); low = omega (arith, h .size, c .before .loop-test .taken) }
+
+add-put : tie.Need-add-put Inv-loop μ-loop
+add-put c =
+    let at = c .before .before .before .before in
+    let s = at .before .before .before in
+    let h = s .pre in
+    let n = rules-most (s .args .order) (h .text) (h .chair) (s .args .work .now) (h .counting .loaded) in
+    omega (arith, h .size, c .before .before .before .loop-test .taken)
+
+put-requires : tie.Need-put-requires Inv-loop μ-loop
+put-requires c κs =
+    let at = c .before .before .before .before in
+    let s = at .before .before .before in
+    let h = s .pre in
+    let n = rules-most (s .args .order) (h .text) (h .chair) (s .args .work .now) (h .counting .loaded) in
+    omega (arith, h .size, c .before .before .before .loop-test .taken, at .loop .inv .1, h .counting .loaded .kept .long)
+
+add-r : tie.Need-add-r Inv-loop μ-loop
+add-r c = omega arith
+
+loop-less : tie.Need-loop-less Inv-loop μ-loop
+loop-less c = omega arith
+
+loop-again : tie.Need-loop-again Inv-loop μ-loop
+loop-again c =
+    let p = c .before .before in
+    let f = p .before .before in
+    let i = f .before .before in
+    let at = i .before in
+    let s = at .before .before .before in
+    let a = s .args in (
+      omega (arith, i .loop-test .taken),
+      p .put .kept .0 ∙ at .loop .inv .1,
+      counted-turn (a .order) (a .pattern .now) (a .rules) (at .loop .r) (a .work .now) (at .loop .work) (p .put .last .0) (f .found-in .result)
+          (i .loop-test .taken) (at .loop .inv .2) (f .found-in .ensures) (p .put .ensures),
+    )
+
+same-length : tie.Need-same-length Inv-loop μ-loop
+same-length c = c .before .loop .inv .1
+
+returns : tie.Need-returns Inv-loop μ-loop
+returns c text chair h e =
+    let at = c .before in
+    let a = at .before .before .before .args in
+    let end : at .loop .r ≡ a .rules = omega (arith, at .loop .inv .0, c .loop-test .left) in
+    subst (λ (n : ℕ). Counting (a .order) (a .pattern .now) text chair n (at .loop .work)) end (at .loop .inv .2 text chair h e)
+
+pub count-rules-spec : {M : Type 1} → statement M
+count-rules-spec =
+    tie.close
+    (tie.spec
+    Inv-loop
+    μ-loop
+    loop-holds
+    found-in-requires
+    add-put
+    put-requires
+    add-r
+    loop-less
+    loop-again
+    same-length
+    returns)

@@ -1,0 +1,4 @@
+pub mod Found
+pub mod Areas
+pub mod Searching
+pub mod Listing

@@ -1,0 +1,79 @@
+-- What the work slice holds while the occurrences of a pattern are counted and listed: beside what `Placed` says, flags of the cuts that
+-- are tried, from 8,960 on, and what is found in each rule, from 6,656 on. p is the pattern as bytes.
+use mathlib.Core.Path.{_≡_}
+use mathlib.Core.Bool.{true}
+use mathlib.Core.List.{List, map, List·Memᴰ as In}
+use Prim.Native.Nat.{ℕ, _+_, _*_, _/_, _≤_, _<_}
+use lib.ListN.{length, getD}
+use Rattle.definitions.specs.declared.Order.{Order}
+use Rattle.definitions.specs.Table.{rankOf, tableOf, isPair, kindOf, numberOf}
+use Rattle.lyndon.specs.Joins.{triedCuts}
+use Rattle.lyndon.specs.Ranks.{Bytes}
+use Rattle.places.specs.Places.{Placed}
+use Rattle.search.specs.Found.{FoundIn}
+
+-- no cut that is tried has the flag 0; p as ranks
+abbrev pub Flagged : List ℕ → List ℕ → Type 0
+Flagged p w = (c : ℕ) → In c (triedCuts p) → getD w (8960 + c) 0 ≡ 0 → ⊥
+
+-- 1 to 2,047 samples, each a byte
+pub record Pattern (p : List ℕ) : Type 0 where
+  pub filled : 0 < length p
+  pub short : length p ≤ 2047
+  pub bytes : Bytes p
+
+-- the first n rules are counted
+pub record Counting (o : Order) (p text : List ℕ) (chair n : ℕ) (w : List ℕ) : Type 0 where
+  pub loaded : Placed o text chair w
+  pub pattern : Pattern p
+  pub flagged : Flagged (map (rankOf o) p) w
+  pub found : (r : ℕ) → r < n → FoundIn o (tableOf o text chair) (map (rankOf o) p) r (getD w (6656 + r) 0)
+
+-- all rules are counted
+pub record Searched (o : Order) (p text : List ℕ) (chair : ℕ) (w : List ℕ) : Type 0 where
+  pub loaded : Placed o text chair w
+  pub pattern : Pattern p
+  pub found : (r : ℕ) → r < length (tableOf o text chair) / 2 → FoundIn o (tableOf o text chair) (map (rankOf o) p) r (getD w (6656 + r) 0)
+
+-- ---- what the functions start from
+
+-- a text of so many rules is loaded
+pub record Starts (o : Order) (rules : ℕ) (w : List ℕ) : Type 0 where
+  pub text : List ℕ
+  pub chair : ℕ
+  pub loaded : Placed o text chair w
+  pub size : rules ≡ length (tableOf o text chair) / 2
+
+-- the same, and the first n rules are counted
+pub record Counts (o : Order) (p : List ℕ) (rules n : ℕ) (w : List ℕ) : Type 0 where
+  pub text : List ℕ
+  pub chair : ℕ
+  pub counting : Counting o p text chair n w
+  pub size : rules ≡ length (tableOf o text chair) / 2
+
+-- the rules before rule r are counted
+pub record Turn (o : Order) (p : List ℕ) (r : ℕ) (w : List ℕ) : Type 0 where
+  pub text : List ℕ
+  pub chair : ℕ
+  pub counting : Counting o p text chair r w
+  pub low : r < length (tableOf o text chair) / 2
+
+-- and rule r is a symbol's
+pub record Symbol (o : Order) (p : List ℕ) (r : ℕ) (w : List ℕ) : Type 0 where
+  pub turn : Turn o p r w
+  pub is-symbol : kindOf (getD (tableOf o (turn .text) (turn .chair)) (2 * r) 0) ≡ 0
+
+-- or rule r is the pair of the rules u and v
+pub record Pair (o : Order) (p : List ℕ) (r u v : ℕ) (w : List ℕ) : Type 0 where
+  pub turn : Turn o p r w
+  pub is-pair : isPair (tableOf o (turn .text) (turn .chair)) r ≡ true
+  pub left : u ≡ numberOf (getD (tableOf o (turn .text) (turn .chair)) (2 * r) 0)
+  pub right : v ≡ numberOf (getD (tableOf o (turn .text) (turn .chair)) (2 * r + 1) 0)
+
+-- all rules are counted, for some pattern
+pub record Finds (w : List ℕ) : Type 0 where
+  pub order : Order
+  pub pattern : List ℕ
+  pub text : List ℕ
+  pub chair : ℕ
+  pub searched : Searched order pattern text chair w
