@@ -1,21 +1,15 @@
 // The services for C, Rust and Python: the same promises, with the answer as a struct. A slice is a pointer and a length; slices overlap
 // neither each other nor the inputs, and word pointers are aligned: that is the caller's part.
-use definitions::Answer;
-use definitions::Reading;
+use replies::Reply;
+use replies::SearchReply;
+use replies::replied;
+use replies::replied_reading;
+use replies::replied_search;
 ghost use mathlib.Core.Path.{_≡_};
 ghost use lib.ListN.{length};
 ghost use Rattle.definitions.specs.declared.Order.the-variants.{Unsigned};
-ghost use Rattle.definitions.specs.Services.{done, refused, numbersOf, outcome, outcomeOf, readingOutcome, resultAfter, workAfter, buildService, checkService, readService, extractService};
-ghost use Rattle.capi.specs.Replies.{replyNumbers};
-
-// number: 0 on success, else the refusal's.
-#[repr(C)]
-pub struct Reply {
-    pub number: u32,
-    pub chair: u32,
-    pub place: u64,
-    pub count: u64,
-}
+ghost use Rattle.definitions.specs.Services.{numbersOf, outcome, resultAfter, workAfter, buildService, checkService, readService, extractService, countService, locateService, cutsService};
+ghost use Rattle.replies.specs.Replies.{replyNumbers, searchNumbers};
 
 #[no_mangle]
 pub extern "C" fn sirbolta_build(
@@ -63,44 +57,32 @@ pub extern "C" fn sirbolta_extract(
     replied(index::extract(table, start, count, work, result))
 }
 
-// An answer as a struct.
-fn replied(a: Answer) -> Reply
-    ensures { λ r. ⌜ replyNumbers r ≡ numbersOf (outcomeOf a) ⌝ }
+#[no_mangle]
+pub extern "C" fn sirbolta_count(table: &[u32], pattern: &[u8], work: &mut [u32]) -> SearchReply
+    ensures answer { λ r. ⌜ searchNumbers r ≡ numbersOf (outcome (countService Unsigned (now (table .entry)) (now (pattern .entry)) (length (now (work .entry))))) ⌝ }
+    ensures work { λ _. ⌜ now (work .exit) ≡ workAfter (countService Unsigned (now (table .entry)) (now (pattern .entry)) (length (now (work .entry)))) (now (work .entry)) ⌝ }
 {
-    match a {
-        Answer::Done(n) => success(n, 0),
-        Answer::Refused(number, place) => refusal(number, place),
-    }
+    replied_search(index::count(table, pattern, work))
 }
 
-// An answer to reading as a struct.
-fn replied_reading(a: Reading) -> Reply
-    ensures { λ r. ⌜ replyNumbers r ≡ numbersOf (readingOutcome a) ⌝ }
+#[no_mangle]
+pub extern "C" fn sirbolta_locate(
+    table: &[u32],
+    pattern: &[u8],
+    work: &mut [u32],
+    result: &mut [u32],
+) -> SearchReply
+    ensures answer { λ r. ⌜ searchNumbers r ≡ numbersOf (outcome (locateService Unsigned (now (table .entry)) (now (pattern .entry)) (length (now (work .entry))) (length (now (result .entry))))) ⌝ }
+    ensures result { λ _. ⌜ now (result .exit) ≡ resultAfter (locateService Unsigned (now (table .entry)) (now (pattern .entry)) (length (now (work .entry))) (length (now (result .entry)))) (now (result .entry)) ⌝ }
+    ensures work { λ _. ⌜ now (work .exit) ≡ workAfter (locateService Unsigned (now (table .entry)) (now (pattern .entry)) (length (now (work .entry))) (length (now (result .entry)))) (now (work .entry)) ⌝ }
 {
-    match a {
-        Reading::Done(n, chair) => success(n, chair),
-        Reading::Refused(number, place) => refusal(number, place),
-    }
+    replied_search(index::locate(table, pattern, work, result))
 }
 
-fn success(count: usize, chair: u16) -> Reply
-    ensures { λ r. ⌜ replyNumbers r ≡ numbersOf (done count chair) ⌝ }
+#[no_mangle]
+pub extern "C" fn sirbolta_live_cuts(pattern: &[u8], result: &mut [u32]) -> Reply
+    ensures answer { λ r. ⌜ replyNumbers r ≡ numbersOf (outcome (cutsService Unsigned (now (pattern .entry)) (length (now (result .entry))))) ⌝ }
+    ensures result { λ _. ⌜ now (result .exit) ≡ resultAfter (cutsService Unsigned (now (pattern .entry)) (length (now (result .entry)))) (now (result .entry)) ⌝ }
 {
-    Reply {
-        number: 0,
-        chair: chair as u32,
-        place: 0,
-        count: count as u64,
-    }
-}
-
-fn refusal(number: u32, place: usize) -> Reply
-    ensures { λ r. ⌜ replyNumbers r ≡ numbersOf (refused number place) ⌝ }
-{
-    Reply {
-        number: number,
-        chair: 0,
-        place: place as u64,
-        count: 0,
-    }
+    replied(index::live_cuts(pattern, result))
 }

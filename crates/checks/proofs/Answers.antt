@@ -1,5 +1,5 @@
 -- What an answer tells of the check that gave it.
-use mathlib.Core.Path.{_≡_, refl, _∙_, ap}
+use mathlib.Core.Path.{_≡_, refl, _∙_, ap, sym}
 use mathlib.Core.Bool.{Bool, true, false, cond}
 use Prim.Native.Nat.{ℕ}
 use native.Mathlib.Omega.{arith}
@@ -33,3 +33,10 @@ done-met c n a r e f = go (c .met) refl
 -- its answer then
 pub refusal : (c : Check) (n : ℕ) → c .met ≡ true → checked c n ≡ Refused (c .number) (c .place)
 refusal c n q = rw q
+
+-- a check that is met answers the same whatever it would hand on; one that is not hands it on
+pub refused-same : (c : Check) (k n : ℕ) (r : Answer) → r ≡ checked c k → c .met ≡ true → r ≡ checked c n
+refused-same c k n r e q = e ∙ refusal c k q ∙ sym (refusal c n q)
+
+pub done-same : (c : Check) (n k : ℕ) → c .met ≡ false → n ≡ k → Done n ≡ checked c k
+done-same c n k q e = rw (q, e)

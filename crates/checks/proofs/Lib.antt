@@ -1,4 +1,5 @@
 pub mod Answers
 pub mod Decisions
 pub mod Serving
-pub mod Shaping
+pub mod Fronts
+pub mod Delivering

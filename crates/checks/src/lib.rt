@@ -1,14 +1,14 @@
-// The checks of the services: each a small function that answers its refusal, or goes on with what was accepted.
+// What the services share: the checks, each a small function that answers its refusal or goes on with what was accepted; and clearing the work slice afterwards.
 use definitions::Answer;
+use definitions::Reading;
 use ends::layout::WORK;
 ghost use mathlib.Core.Path.{_≡_};
 ghost use mathlib.Core.Bool.{cond, not};
-ghost use mathlib.Core.List.{_++_};
-ghost use Prim.Native.Nat.{_*_, _/_, _<_};
+ghost use Prim.Native.Nat.{_≤_};
 ghost use lib.ListN.{length};
-ghost use Rattle.definitions.specs.Services.{textTooLong, patternChecks, workTooShort, resultTooShort, hasBadWord, tableLength, rangePastEnd};
+ghost use Rattle.definitions.specs.Services.{cleared, textTooLong, patternChecks, workTooShort, resultTooShort, tableLength, rangePastEnd};
 ghost use Rattle.definitions.specs.declared.Answer.the-variants.{Done, Refused};
-ghost use Rattle.checks.specs.Checks.{checked, answered, shapeChecks};
+ghost use Rattle.checks.specs.Checks.{checked, answered, readingOf};
 
 pub fn text_fits(text: &[u8]) -> Answer
     ensures { λ r. ⌜ r ≡ checked (textTooLong (now (text .entry))) (length (now (text .entry))) ⌝ }
@@ -65,33 +65,7 @@ pub fn range_fits(n: usize, start: usize, count: usize) -> Answer
     Answer::Done(count)
 }
 
-// What can be said of a table before anything is written: refusals 4, 5, 6.
-pub fn shaped(table: &[u32], n: usize) -> Answer
-    ensures { λ r. ⌜ r ≡ answered (shapeChecks (now (table .entry)) n) (length (now (table .entry)) / 2) ⌝ }
-{
-    let short = work_fits(n);
-    let Answer::Done(_) = short else {
-        return short;
-    };
-    let size = length_fits(table.len());
-    let Answer::Done(_) = size else {
-        return size;
-    };
-    words_fit(table)
-}
-
-// What can be said of a pattern and a table before anything is written: refusals 2 to 6.
-pub fn searchable(table: &[u32], pattern: &[u8], n: usize) -> Answer
-    ensures { λ r. ⌜ r ≡ answered (patternChecks (now (pattern .entry)) ++ shapeChecks (now (table .entry)) n) (length (now (table .entry)) / 2) ⌝ }
-{
-    let a = pattern_fits(pattern);
-    let Answer::Done(_) = a else {
-        return a;
-    };
-    shaped(table, n)
-}
-
-fn length_fits(n: usize) -> Answer
+pub fn length_fits(n: usize) -> Answer
     ensures { λ r. ⌜ r ≡ checked (tableLength n) n ⌝ }
 {
     if n == 0 {
@@ -106,18 +80,6 @@ fn length_fits(n: usize) -> Answer
     Answer::Done(n)
 }
 
-fn words_fit(table: &[u32]) -> Answer
-    requires { ⌜ length (now table) ≡ 2 * (length (now table) / 2) ⌝ }
-    ensures { λ r. ⌜ r ≡ checked (hasBadWord (now (table .entry))) (length (now (table .entry)) / 2) ⌝ }
-{
-    let i = tables::bad_word(table);
-    if i < table.len() {
-        Answer::Refused(6, i)
-    } else {
-        Answer::Done(table.len() / 2)
-    }
-}
-
 // Whether a table is accepted, as an answer.
 pub fn accepts(accepted: bool, rules: usize) -> Answer
     ensures { λ r. ⌜ r ≡ cond (not accepted) (Refused 7 0) (Done rules) ⌝ }
@@ -127,4 +89,22 @@ pub fn accepts(accepted: bool, rules: usize) -> Answer
     } else {
         Answer::Refused(7, 0)
     }
+}
+
+// An answer to reading: success has the chair number with it.
+pub fn reading(a: Answer, chair: u16) -> Reading
+    ensures { λ r. ⌜ r ≡ readingOf a chair ⌝ }
+{
+    match a {
+        Answer::Done(n) => Reading::Done(n, chair),
+        Answer::Refused(number, place) => Reading::Refused(number, place),
+    }
+}
+
+// Clears the words that the services use.
+pub fn clear_front(work: &mut [u32])
+    requires { ⌜ 16384 ≤ length (now work) ⌝ }
+    ensures { λ _. ⌜ now (work .exit) ≡ cleared (now (work .entry)) ⌝ }
+{
+    slices::clear(&mut work[0..WORK]);
 }

@@ -3,4 +3,5 @@ pub mod Grammar
 pub mod Table
 pub mod Occurrences
 pub mod Services
+pub mod Programs
 pub mod Samples

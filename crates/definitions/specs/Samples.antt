@@ -1,9 +1,9 @@
--- The samples of document 01 that are marked P, its live cuts, its table of `abab` for chair 40, tables that it says are foreign, and
--- some of its edges as outcomes of services: by computation, under one claim.
-use Prim.Native.Nat.{ℕ}
+-- The samples of document 01 that are marked P, its live cuts, its two examples of a cut at a join, its table of `abab` for chair 40, tables that it says are
+-- foreign, some of its edges as outcomes of services, and what its program prints: by computation, under one claim.
+use Prim.Native.Nat.{ℕ, _+_}
 use mathlib.Core.Path.{_≡_, refl}
 use mathlib.Core.Bool.{Bool, true, false, cond, _&&_}
-use mathlib.Core.List.{List, [], _∷_}
+use mathlib.Core.List.{List, [], _∷_, map}
 use lib.ListN.{length, drop, getD, replicate}
 use lib.Dec.{eqb}
 use Rattle.definitions.specs.declared.Order.the-variants.{Unsigned}
@@ -13,9 +13,10 @@ use Rattle.definitions.specs.declared.Reading.the-variants as reading
 use Rattle.definitions.specs.declared.Answer.the-variants.{Done, Refused}
 use Rattle.definitions.specs.Words.{every, below, least, placed, same, begins, lexlt, lyndon, cutOf}
 use Rattle.definitions.specs.Grammar.{leftOf, rightOf, word, split, lyndonTree, indexOf, meet, visit, order, ruleOf, rulesOf}
-use Rattle.definitions.specs.Table.{rankOf, byteOf, numberOfRank, rankOfNumber, marked, wordOf, kindOf, numberOf, ruleWords, words, tableOf, badFirst, badSecond, badWord, stringOf, strings, ruleString, spelled, textOf, chairOf, isDrive, isChair, isTable}
-use Rattle.definitions.specs.Occurrences.{occurrences, notGreaterAtDifference, isLive, liveCuts, patternCuts}
+use Rattle.definitions.specs.Table.{rankOf, byteOf, numberOfRank, rankOfNumber, marked, wordOf, kindOf, numberOf, ruleWords, words, tableOf, badFirst, badSecond, badWord, stringOf, strings, ruleString, isPair, leftHalf, rightHalf, spelled, textOf, chairOf, isDrive, isChair, isTable}
+use Rattle.definitions.specs.Occurrences.{occurrences, notGreaterAtDifference, isLive, liveCuts, patternCuts, straddles, straddling, cutIn, cutAt}
 use Rattle.definitions.specs.Services.{Outcome, numbersOf, readingOutcome, Service, firstMet, outcome, outcomeOf, resultAfter, cleared, workAfter, tableChecks, patternChecks, buildService, checkService, readService, extractService, countService, locateService, cutsService}
+use Rattle.definitions.specs.Programs.{digits, digitCount, decimal, line, named, decimalLines, refusedLine, printed, motifOf, driveOf, foundLines, motifOutput}
 
 abbrev pub a : ℕ
 a = 97
@@ -43,6 +44,13 @@ twoRules =
     0x00000000 ∷ 0xC0000028 ∷ 0x00000062 ∷ 0xC0000000 ∷ 0x00000063 ∷ 0xC0000000 ∷ 0x40000001 ∷ 0x80000002
     ∷ 0x40000000 ∷ 0x80000003 ∷ 0x40000001 ∷ 0x80000002 ∷ 0x40000004 ∷ 0x80000005 ∷ []
 
+-- what the program prints: `refused N`; and `rules R`, `found F` and positions
+abbrev pub refusedWith : ℕ → List ℕ
+refusedWith n = 114 ∷ 101 ∷ 102 ∷ 117 ∷ 115 ∷ 101 ∷ 100 ∷ 32 ∷ (48 + n) ∷ 10 ∷ []
+
+abbrev pub foundIn : ℕ → ℕ → List ℕ → List ℕ
+foundIn r n rest = 114 ∷ 117 ∷ 108 ∷ 101 ∷ 115 ∷ 32 ∷ (48 + r) ∷ 10 ∷ 102 ∷ 111 ∷ 117 ∷ 110 ∷ 100 ∷ 32 ∷ (48 + n) ∷ 10 ∷ rest
+
 pub data Sample : Type 0 where
   -- the drive has so many rules, its table is accepted and gives the drive and the chair number back
   rules : List ℕ → ℕ → Sample
@@ -50,6 +58,8 @@ pub data Sample : Type 0 where
   finds : List ℕ → List ℕ → List ℕ → Sample
   -- the pattern has just these live cuts
   cuts : List ℕ → List ℕ → Sample
+  -- in this pair rule of the drive's table the pattern straddles the join at just these places, and is cut there at live cuts
+  joins : List ℕ → ℕ → List ℕ → List ℕ → Sample
   -- the table of the drive and chair number, word by word
   table : List ℕ → ℕ → List ℕ → Sample
   -- the service ends with this number, place, count and chair number
@@ -62,6 +72,10 @@ pub data Sample : Type 0 where
   answers : Answer → ℕ → ℕ → ℕ → Sample
   -- the same of an answer to reading, with the chair number
   reads : Reading → ℕ → ℕ → ℕ → ℕ → Sample
+  -- the number in decimal
+  spells : ℕ → List ℕ → Sample
+  -- the input makes the program `motif` print this
+  prints : List ℕ → List ℕ → Sample
 
 -- an outcome's parts
 unfoldable pub parts : Outcome → List ℕ
@@ -75,6 +89,12 @@ holds (rules text n) =
     && (isTable Unsigned t && (same (textOf Unsigned t) text && eqb (chairOf t) 40)))
 holds (finds text p places) = same (occurrences p text) places
 holds (cuts p places) = same (patternCuts Unsigned p) places
+holds (joins text r p places) =
+    let t = tableOf Unsigned text 40 in
+    let u = leftHalf Unsigned t r in
+    let v = rightHalf Unsigned t r in
+    let q = map (rankOf Unsigned) p in
+    isPair t r && (same (straddling q u v) places && same (cutAt q (patternCuts Unsigned p) u v) places)
 holds (table text chair t) = same (tableOf Unsigned text chair) t
 holds (ends s number place count chair) = same (parts (outcome s)) (number ∷ place ∷ count ∷ chair ∷ [])
 holds (leaves s before after) = same (resultAfter s before) after
@@ -83,6 +103,8 @@ holds (clears s b) =
     eqb (length w) 16385 && (eqb (getD w 0 7) (cond b 0 7) && (eqb (getD w 16383 7) (cond b 0 7) && eqb (getD w 16384 7) 7))
 holds (answers r number place count) = same (parts (outcomeOf r)) (number ∷ place ∷ count ∷ 0 ∷ [])
 holds (reads r number place count chair) = same (parts (readingOutcome r)) (number ∷ place ∷ count ∷ chair ∷ [])
+holds (spells n bytes) = same (decimal n) bytes
+holds (prints input output) = same (motifOutput Unsigned input) output
 
 unfoldable pub all : List Sample → Bool
 all [] = true
@@ -111,6 +133,9 @@ samples =
     ∷ cuts (a ∷ a ∷ b ∷ a ∷ []) (1 ∷ 3 ∷ [])
     ∷ cuts (a ∷ a ∷ a ∷ []) (1 ∷ 2 ∷ [])
     ∷ cuts (a ∷ []) []
+    ∷ joins (a ∷ a ∷ b ∷ b ∷ []) 5 (a ∷ a ∷ b ∷ []) (0 ∷ [])
+    ∷ joins (a ∷ b ∷ b ∷ b ∷ []) 5 (b ∷ b ∷ b ∷ []) (1 ∷ [])
+    ∷ joins (a ∷ b ∷ b ∷ b ∷ []) 5 (b ∷ []) []
     ∷ table abab 40 ofAbab
     ∷ ends (buildService Unsigned abab 40 16384 12) 0 0 12 0
     ∷ ends (buildService Unsigned abab 40 16384 11) 9 12 0 0
@@ -147,9 +172,27 @@ samples =
     ∷ answers (Refused 6 5) 6 5 0
     ∷ reads (reading.Done 5 40) 0 0 5 40
     ∷ reads (reading.Refused 6 5) 6 5 0 0
+    ∷ spells 0 (48 ∷ [])
+    ∷ spells 10 (49 ∷ 48 ∷ [])
+    ∷ spells 999 (57 ∷ 57 ∷ 57 ∷ [])
+    ∷ spells 2304 (50 ∷ 51 ∷ 48 ∷ 52 ∷ [])
+    ∷ prints (a ∷ b ∷ 10 ∷ abab) (foundIn 6 2 (48 ∷ 10 ∷ 50 ∷ 10 ∷ []))
+    ∷ prints [] (refusedWith 2)
+    ∷ prints (10 ∷ replicate 2048 a) (refusedWith 1)
+    ∷ prints (replicate 2048 a) (refusedWith 3)
+    ∷ prints (a ∷ []) (foundIn 1 0 [])
+    ∷ prints (a ∷ 10 ∷ 10 ∷ []) (foundIn 3 0 [])
+    ∷ prints (replicate 4096 a) (refusedWith 1)
+    ∷ prints (replicate 4095 a) (refusedWith 3)
+    ∷ ends (buildService Unsigned (replicate 2048 a) 40 16383 0) 1 0 0 0
+    ∷ ends (buildService Unsigned (replicate 2047 a) 40 16383 0) 4 0 0 0
+    ∷ ends (countService Unsigned [] (replicate 2048 a) 0) 3 0 0 0
+    ∷ ends (countService Unsigned [] (replicate 2047 a) 0) 4 0 0 0
+    ∷ ends (checkService Unsigned (replicate 4610 0) 16384) 5 0 0 0
+    ∷ ends (checkService Unsigned (replicate 4608 0) 16384) 6 1 0 0
     ∷ []
 
 -- every sample holds
 pub samples-hold : all samples ≡ true
-unfolding holds all samples parts numbersOf readingOutcome every below least placed same begins lexlt lyndon cutOf leftOf rightOf word split lyndonTree indexOf meet visit order ruleOf rulesOf rankOf byteOf numberOfRank rankOfNumber marked wordOf kindOf numberOf ruleWords words tableOf badFirst badSecond badWord stringOf strings ruleString spelled textOf chairOf isDrive isChair isTable occurrences notGreaterAtDifference isLive liveCuts patternCuts firstMet outcome outcomeOf resultAfter cleared workAfter tableChecks patternChecks buildService checkService readService extractService countService locateService cutsService
+unfolding holds all samples parts numbersOf readingOutcome every below least placed same begins lexlt lyndon cutOf leftOf rightOf word split lyndonTree indexOf meet visit order ruleOf rulesOf rankOf byteOf numberOfRank rankOfNumber marked wordOf kindOf numberOf ruleWords words tableOf badFirst badSecond badWord stringOf strings ruleString isPair leftHalf rightHalf spelled textOf chairOf isDrive isChair isTable occurrences notGreaterAtDifference isLive liveCuts patternCuts straddles straddling cutIn cutAt firstMet outcome outcomeOf resultAfter cleared workAfter tableChecks patternChecks buildService checkService readService extractService countService locateService cutsService digits digitCount decimal line named decimalLines refusedLine printed motifOf driveOf foundLines motifOutput
 samples-hold = refl

@@ -1,4 +1,3 @@
-pub mod Compare
 pub mod Place
 pub mod Merging
 pub mod Areas

@@ -21,6 +21,10 @@ pub const TABLE_END: usize = 16128;
 pub const CHAIR: usize = 11521;
 // The buckets end, and the links of rules begin.
 pub const LINKS_OF_RULES: usize = 9216;
+// During a search: the lengths of the rules' strings begin, and the places at which they stand, 2304 words each.
+pub const LENGTHS: usize = 2048;
+
+pub const PLACES: usize = 4352;
 // The words of the work slice that the services use.
 pub const WORK: usize = 16384;
 

@@ -1,5 +1,2 @@
-pub mod Adding
-pub mod Stacks
-pub mod Pushing
 pub mod Stepping
 pub mod Tabling

@@ -14,8 +14,9 @@ use Rattle.lists.specs.Parts.{part, part-length, part-at, part-none}
 use Rattle.lyndon.specs.Encoding.{firstWord, secondWord}
 use Rattle.lyndon.specs.Closings.{State, start, push, joins, run, Enough, joins-depth, run-extends}
 use Rattle.dict.specs.Links.{dict-none}
-use Rattle.grammar.specs.Areas.{Rules, stackIn, Holds, Pushes, Joins, stepped, Steps, numbered, Numbers, Below}
-use Rattle.grammar.proofs.Stacks.{joins-room}
+use Rattle.stack.specs.Areas.{Rules, stackIn, Holds, Pushes, Joins, Below}
+use Rattle.grammar.specs.Numbering.{stepped, Steps, numbered, Numbers}
+use Rattle.stack.proofs.Stacks.{joins-room}
 
 -- below the stack the slices agree
 pub below-at : (w v : List ℕ) (i : ℕ) → i < 6144 → Below w v → getD v i 0 ≡ getD w i 0

@@ -24,7 +24,8 @@ use Rattle.lyndon.specs.Encoding.{firstWord, secondWord, words-cons}
 use Rattle.lyndon.specs.Closings.{start, run, closingsOf, Enough, forest-enough, run-rules}
 use Rattle.lyndon.specs.Reading.{Stored, storable, order-most, table-words, table-length}
 use Rattle.ends.specs.Areas.{Ended}
-use Rattle.grammar.specs.Areas.{Rules, numbered, Numbers, Below}
+use Rattle.stack.specs.Areas.{Rules, Below}
+use Rattle.grammar.specs.Numbering.{numbered, Numbers}
 use Rattle.grammar.specs.Loaded.{Marked, Loaded}
 use Rattle.grammar.proofs.Stepping.{below-at}
 

@@ -1,2 +1,2 @@
-pub mod Areas
+pub mod Numbering
 pub mod Loaded

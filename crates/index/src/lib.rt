@@ -1,25 +1,23 @@
 // The services: each checks what it is handed in the paper's order, and does its work or refuses with number and place.
 // What it answers and what every lent slice holds afterwards is given by its definition, from the inputs alone.
-mod reads;
-mod searches;
-
 use checks::accepts;
-use checks::result_fits;
-use checks::shaped;
+use checks::clear_front;
 use checks::text_fits;
 use checks::work_fits;
 use definitions::Answer;
 use definitions::Order;
+use delivery::deliver;
 use ends::layout::TABLE;
 use ends::layout::WORK;
-pub use reads::extract;
-pub use reads::read;
-pub use searches::count;
-pub use searches::live_cuts;
-pub use searches::locate;
+pub use reading::extract;
+pub use reading::read;
+pub use searching::count;
+pub use searching::live_cuts;
+pub use searching::locate;
+use shapes::shaped;
 ghost use mathlib.Core.Path.{_≡_};
 ghost use mathlib.Core.Bool.{cond};
-ghost use Prim.Native.Nat.{_+_, _*_, _/_, _≤_};
+ghost use Prim.Native.Nat.{_≤_};
 ghost use lib.ListN.{length};
 ghost use lib.Dec.{ltb};
 ghost use Rattle.definitions.specs.declared.Order.the-variants.{Unsigned};
@@ -74,19 +72,6 @@ fn build_in(order: Order, text: &[u8], chair: u16, work: &mut [u32], result: &mu
     deliver(&work[TABLE..end], result)
 }
 
-// Copies words to the front of the result slice, or refuses by 9.
-fn deliver(words: &[u32], result: &mut [u32]) -> Answer
-    ensures { λ r. ⌜ r ≡ checked (resultTooShort (length (now (words .entry))) (length (now (result .entry)))) (length (now (words .entry))) ⌝ }
-    ensures { λ _. ⌜ now (result .exit) ≡ cond (ltb (length (now (result .entry))) (length (now (words .entry)))) (now (result .entry)) (placed (now (words .entry)) (now (result .entry))) ⌝ }
-{
-    let a = result_fits(words.len(), result.len());
-    let Answer::Done(_) = a else {
-        return a;
-    };
-    slices::copy(words, result);
-    a
-}
-
 // Checks a table. Refuses by 4 to 7; success answers the number of rules.
 pub fn check(table: &[u32], work: &mut [u32]) -> Answer
     ensures answer { λ r. ⌜ outcomeOf r ≡ outcome (checkService Unsigned (now (table .entry)) (length (now (work .entry)))) ⌝ }
@@ -108,12 +93,4 @@ fn check_shaped(order: Order, table: &[u32], rules: usize, work: &mut [u32]) -> 
     let accepted = tables::load(order, table, &mut work[0..WORK]);
     clear_front(work);
     accepts(accepted, rules)
-}
-
-// Clears the words that the services use.
-fn clear_front(work: &mut [u32])
-    requires { ⌜ 16384 ≤ length (now work) ⌝ }
-    ensures { λ _. ⌜ now (work .exit) ≡ cleared (now (work .entry)) ⌝ }
-{
-    slices::clear(&mut work[0..WORK]);
 }

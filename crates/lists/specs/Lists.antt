@@ -1,10 +1,10 @@
 -- Laws of lists: how two splits of one list overlap, and the front of a slice, `placed`.
-use mathlib.Core.Path.{_≡_, refl, sym, ap₂}
-use mathlib.Core.List.{List, [], _∷_, _++_, append-assoc, head-eq-of-cons-eq, tail-eq-of-cons-eq}
-use Prim.Native.Nat.{suc, _+_, _≤_, _<_}
+use mathlib.Core.Path.{_≡_, refl, sym, _∙_, ap, ap₂}
+use mathlib.Core.List.{List, [], _∷_, _++_, append-assoc, append-nil, head-eq-of-cons-eq, tail-eq-of-cons-eq}
+use Prim.Native.Nat.{ℕ, suc, _+_, _-_, _≤_, _<_}
 use native.Mathlib.Omega.{arith}
-use lib.ListN.{length, take, drop, getD, set, length-append, length-drop}
-use lib.Seq.{drop-cons, set-at, take-append-seam}
+use lib.ListN.{length, take, drop, getD, set, length-append, length-drop, drop-of-length-le}
+use lib.Seq.{drop-cons, set-at, take-all, take-at, take-append-seam, drop-at, drop-drop}
 use Rattle.definitions.specs.Words.{placed}
 
 module _ {ℓ} {A : Type ℓ} where
@@ -69,3 +69,18 @@ module _ {ℓ} {A : Type ℓ} where
   pub placed-front : (l old : List A) → take (length l) (placed l old) ≡ l
   unfolding placed
   placed-front l old = take-append-seam l (drop (length l) old)
+
+  -- a list at the front, and another behind it in the rest of the slice
+  pub placed-both : (u v old w z : List A) (n : ℕ) → n ≡ length u → length u + length v ≤ length old → w ≡ placed u old
+      → z ≡ placed v (take (length w - n) (drop n w)) → take n w ++ (z ++ drop (length w - n) (drop n w)) ≡ placed (u ++ v) old
+  unfolding placed
+  placed-both u v old w z n e h f g =
+      let behind : drop n w ≡ drop (length u) old = ap (drop n) f ∙ drop-at u (drop (length u) old) n (sym e) in
+      let before : take n w ≡ u = ap (take n) f ∙ take-at u (drop (length u) old) n (sym e) in
+      let size : length w ≡ length old = ap length f ∙ placed-length u old (omega arith) in
+      let rest : length (drop n w) ≤ length w - n = omega (arith, length-drop n w) in
+      ap₂ {C = List A} (λ a b. a ++ b) before
+      (ap₂ {C = List A} (λ a b. a ++ b) (g ∙ ap (placed v) (take-all (length w - n) (drop n w) rest ∙ behind)) (drop-of-length-le (drop n w) rest)
+      ∙ append-nil (placed v (drop (length u) old)))
+      ∙ sym (append-assoc u v (drop (length v) (drop (length u) old)))
+      ∙ ap (λ (l : List A). (u ++ v) ++ l) (drop-drop (length v) (length u) old ∙ ap (λ (k : ℕ). drop k old) (sym (length-append u v)))

@@ -99,7 +99,7 @@ cuts-one p h c m = let (z, k, l) = live-is p c m in omega arith
 
 -- ---- occurrences that straddle a join
 
--- p in u ++ v straddles the join: u ends with its front q, v begins with its rest k
+-- p in u ++ v straddles the join: u ends with its front, v begins with its rest
 pub record Straddle (p u v : List ℕ) (i : ℕ) : Type 0 where
   pub before : List ℕ
   pub front : List ℕ

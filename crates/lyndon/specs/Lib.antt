@@ -17,3 +17,4 @@ pub mod Joins
 pub mod Pairs
 pub mod Shapes
 pub mod Back
+pub mod Finds

@@ -103,6 +103,10 @@ empty-nowhere p s = (
     none [] h = refl
     none (k ∷ l) h = absurd (h k (here refl))
 
+-- so for a pattern longer than the string
+pub longer-nowhere : (p s : List ℕ) → length s < length p → occurrences p s ≡ []
+longer-nowhere p s h = empty-nowhere p s .1 (λ i b. omega (arith, b .0))
+
 -- ---- the marked text
 
 -- ranks begin where bytes begin

@@ -6,7 +6,7 @@ use mathlib.Core.Bool.{true}
 use mathlib.Core.List.{List, [], _++_, map}
 use Prim.Native.Nat.{ℕ, _+_, _*_, _/_, _<_}
 use native.Mathlib.Omega.{arith}
-use lib.ListN.{length, getD}
+use lib.ListN.{length, getD, length-map}
 use lib.Dec.{ltb, eqb}
 use borrow.Author.Tests.{ltb-true, eqb-true}
 use Rattle.definitions.specs.declared.Order.{Order}
@@ -84,3 +84,10 @@ pub pattern-straddling : (o : Order) (t : List ℕ) → isTable o t ≡ true →
     → straddling (map (rankOf o) p) (leftHalf o t r) (rightHalf o t r) ≡ cutAt (map (rankOf o) p) (patternCuts o p) (leftHalf o t r) (rightHalf o t r)
 unfolding patternCuts
 pattern-straddling o t a r e p = pair-straddling o t a r e (map (rankOf o) p)
+
+pub pattern-occurrences : (o : Order) (t : List ℕ) → isTable o t ≡ true → (r : ℕ) → isPair t r ≡ true → (p : List ℕ) → 0 < length p
+    → occurrences (map (rankOf o) p) (ruleString o t r)
+    ≡ occurrences (map (rankOf o) p) (leftHalf o t r)
+    ++ (cutAt (map (rankOf o) p) (patternCuts o p) (leftHalf o t r) (rightHalf o t r) ++ map (λ (k : ℕ). length (leftHalf o t r) + k) (occurrences (map (rankOf o) p) (rightHalf o t r)))
+unfolding patternCuts
+pattern-occurrences o t a r e p h = pair-occurrences o t a r e (map (rankOf o) p) (omega (arith, length-map p (rankOf o)))

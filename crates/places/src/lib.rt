@@ -3,6 +3,8 @@
 // The lengths go from the first rule up; the places from the root down: a rule's left half stands where the rule does, its right half behind it.
 // Each pass reads a rule once. A rule that is a half of several rules keeps the place that was stored last: any of them is right.
 use ends::layout::KIND_1;
+use ends::layout::LENGTHS;
+use ends::layout::PLACES;
 use ends::layout::TABLE;
 use slices::put;
 use slices::wide;
@@ -14,18 +16,13 @@ ghost use Rattle.grammar.specs.Loaded.{Ready};
 ghost use Rattle.places.specs.Places.{Placed};
 ghost use Rattle.places.specs.Passes.{Source, tableIn, rulesIn, Sizing, Placing};
 
-// Where the lengths of the rules' strings begin in the work slice, and where their places begin: 2304 words each.
-pub const LENGTHS: usize = 2048;
-
-pub const STARTS: usize = 4352;
-
 // Stores for each rule of the table that is loaded the length of its string and a place of the marked text at which it stands.
 pub fn place_rules(work: &mut [u32], rules: usize)
     requires { ⌜ ((h : Ready (now work)) × (rules ≡ length (tableOf (h .order) (h .text) (h .chair)) / 2)) ⌝ }
     ensures { λ _. ⌜ ((h : Ready (now (work .entry))) → rules ≡ length (tableOf (h .order) (h .text) (h .chair)) / 2 → Placed (h .order) (h .text) (h .chair) (now (work .exit))) ⌝ }
 {
     size_all(work, rules);
-    put(work, STARTS + (rules - 1), 0);
+    put(work, PLACES + (rules - 1), 0);
     place_all(work, rules);
 }
 
@@ -97,8 +94,8 @@ fn place_pair(work: &mut [u32], r: usize, left: usize, right: usize)
     requires { ⌜ (r < 2304) × (left < 2304) × (right < 2304) × (16384 ≤ length (now work)) × (getD (now work) (4352 + r) 0 + getD (now work) (2048 + left) 0 ≤ 2048) ⌝ }
     ensures { λ _. ⌜ now (work .exit) ≡ set (set (now (work .entry)) (4352 + left) (getD (now (work .entry)) (4352 + r) 0)) (4352 + right) (getD (now (work .entry)) (4352 + r) 0 + getD (now (work .entry)) (2048 + left) 0) ⌝ }
 {
-    let start = work[STARTS + r];
+    let start = work[PLACES + r];
     let behind = start + work[LENGTHS + left];
-    put(work, STARTS + left, start);
-    put(work, STARTS + right, behind);
+    put(work, PLACES + left, start);
+    put(work, PLACES + right, behind);
 }

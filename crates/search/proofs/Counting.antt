@@ -1,5 +1,5 @@
--- Counting: what is found in a symbol rule (`symbol-found`), in a pair rule from its halves and the cut at its join (`pair-found`), and how
--- the first n rules become n + 1 by a store (`counted-more`). The flags of the live cuts start it (`counting-start`).
+-- What is found in a symbol rule is one comparison (`symbol-found`, `symbol-other`); in a pair rule it is what its halves have, and one
+-- more where its join has a cut (`pair-found`). Storing it changes nothing that was counted, so one rule more is (`counted-more`).
 use mathlib.Core.Path.{_≡_, refl, sym, _∙_, ap, ap₂, subst}
 use mathlib.Core.Bool.{Bool, true, false, cond, _&&_}
 use mathlib.Core.List.{List, [], _∷_, _++_, map}
@@ -13,16 +13,17 @@ use Rattle.definitions.specs.declared.Order.{Order}
 use Rattle.definitions.specs.Words.{below, begins}
 use Rattle.definitions.specs.Table.{rankOf, tableOf, kindOf, numberOf, ruleString, isPair, leftHalf, rightHalf}
 use Rattle.definitions.specs.Occurrences.{occurrences}
-use Rattle.lists.specs.Bools.{and-right}
+use Rattle.lists.specs.Bools.{and-right, contra}
 use Rattle.lists.specs.Numbers.{split-lt, below-length}
 use Rattle.lists.specs.Parts.{part, part-at, part-length}
 use Rattle.lyndon.specs.Joins.{occurrences-join}
-use Rattle.lyndon.specs.Occurrences.{empty-nowhere}
+use Rattle.lyndon.specs.Occurrences.{longer-nowhere}
 use Rattle.lyndon.specs.Shapes.{symbol-string}
-use Rattle.search.specs.Found.{occursIn, acrossJoin, cutPlace, JoinCut, FoundIn}
-use Rattle.search.specs.Areas.{Readable}
+use Rattle.joins.specs.Areas.{Readable}
+use Rattle.joins.specs.Joining.{cutPlace, JoinCut}
+use Rattle.joins.proofs.Joining.{cut-place-size}
+use Rattle.search.specs.Found.{occursIn, acrossJoin, FoundIn}
 use Rattle.search.specs.Searching.{Counting, Turn, Symbol, Pair}
-use Rattle.search.proofs.Joining.{cut-place-size}
 use Rattle.search.proofs.Standing.{Halves, rules-most, rule-stands, pair-stands, Outside, placed-outside}
 
 -- ---- how many there can be
@@ -42,7 +43,7 @@ one-symbol b a = go (eqb b a)
     go false = refl
 
 no-room : (p : List ℕ) (a : ℕ) → 1 < length p → occurrences p (a ∷ []) ≡ []
-no-room p a h = empty-nowhere p (a ∷ []) .1 (λ i b. omega (arith, b .0))
+no-room p a h = longer-nowhere p (a ∷ []) h
 
 module _ (o : Order) (p : List ℕ) (r : ℕ) (w : List ℕ) (h : Symbol o p r w) where
   abbrev t : List ℕ
@@ -70,14 +71,14 @@ module _ (o : Order) (p : List ℕ) (r : ℕ) (w : List ℕ) (h : Symbol o p r w
       let s = symbol-string o t r (h .turn .low) (h .is-symbol) in
       omega (arith, ap length s, rule-stands o (h .turn .text) (h .turn .chair) w (h .turn .counting .loaded) r (h .turn .low) .0)
 
-  found-of : (x : ℕ) → x / 4096 ≡ length (occurrences (map (rankOf o) p) (getD w (getD w (4352 + r) 0) 0 ∷ [])) → FoundIn o (tableOf o (h .turn .text) (h .turn .chair)) (map (rankOf o) p) r x
+  found-of : (x : ℕ) → x % 4096 ≡ 0 → x / 4096 ≡ length (occurrences (map (rankOf o) p) (getD w (getD w (4352 + r) 0) 0 ∷ [])) → FoundIn o (tableOf o (h .turn .text) (h .turn .chair)) (map (rankOf o) p) r x
   unfolding occursIn
-  found-of x e = record { number = e ∙ ap (λ (s : List ℕ). length (occurrences P s)) (sym symbol-stands); inside = λ q. no-pair q; cut = λ q. no-pair q }
+  found-of x z e = record { no-cut = λ q. z; number = e ∙ ap (λ (s : List ℕ). length (occurrences P s)) (sym symbol-stands); inside = λ q. no-pair q; cut = λ q. no-pair q }
 
   pub symbol-long : (length p ≡ 1 → ⊥) → FoundIn o (tableOf o (h .turn .text) (h .turn .chair)) (map (rankOf o) p) r 0
   symbol-long n =
       let e : 1 < length (map (rankOf o) p) = omega (arith, length-map p (rankOf o), h .turn .counting .pattern .filled, lt-or-one) in
-      found-of 0 (ap length (sym (no-room (map (rankOf o) p) (getD w (getD w (4352 + r) 0) 0) e)))
+      found-of 0 refl (ap length (sym (no-room (map (rankOf o) p) (getD w (getD w (4352 + r) 0) 0) e)))
     where
       lt-or-one : 1 < length p
       lt-or-one = split-lt 1 (length p) (λ l. l) (λ q. absurd (n (sym q))) (λ l. absurd (omega (arith, h .turn .counting .pattern .filled)))
@@ -104,10 +105,10 @@ module _ (o : Order) (p : List ℕ) (r : ℕ) (w : List ℕ) (h : Symbol o p r w
       size false = refl
 
   pub symbol-found : length p ≡ 1 → getD w (getD w (4352 + r) 0) 0 ≡ rankOf o (getD p 0 0) → FoundIn o (tableOf o (h .turn .text) (h .turn .chair)) (map (rankOf o) p) r 4096
-  symbol-found e q = found-of 4096 (sym (one-found true e (eq-eqb (rankOf o (getD p 0 0)) (getD w (getD w (4352 + r) 0) 0) (sym q))))
+  symbol-found e q = found-of 4096 refl (sym (one-found true e (eq-eqb (rankOf o (getD p 0 0)) (getD w (getD w (4352 + r) 0) 0) (sym q))))
 
   pub symbol-other : length p ≡ 1 → (getD w (getD w (4352 + r) 0) 0 ≡ rankOf o (getD p 0 0) → ⊥) → FoundIn o (tableOf o (h .turn .text) (h .turn .chair)) (map (rankOf o) p) r 0
-  symbol-other e q = found-of 0 (sym (one-found false e (ne-eqb (rankOf o (getD p 0 0)) (getD w (getD w (4352 + r) 0) 0) (λ z. q (sym z)))))
+  symbol-other e q = found-of 0 refl (sym (one-found false e (ne-eqb (rankOf o (getD p 0 0)) (getD w (getD w (4352 + r) 0) 0) (λ z. q (sym z)))))
 
 -- ---- a pair
 
@@ -170,6 +171,7 @@ module _ (o : Order) (p : List ℕ) (r u v : ℕ) (w : List ℕ) (h : Pair o p r
         number = e ∙ omega (arith, a, b, total);
         inside = λ q. omega (arith, j .inside, part-length (getD w (4352 + r) 0) (getD w (2048 + u) 0) w (omega (arith, k .inside, h .turn .counting .loaded .kept .long)), k .left-size);
         cut = λ q. across ∙ ap (cutPlace n) (sym f);
+        no-cut = λ q. contra (h .is-pair) q;
       }
 
 -- ---- what the code reads of it

@@ -1,7 +1,7 @@
 -- Where counting starts: the flags of the live cuts are written into their area, and nothing else changes (`counting-start`). Where it
 -- ends: the root's string is the marked text, so its number is that of the text (`counted-text`).
 use mathlib.Core.Path.{_≡_, sym, _∙_, ap}
-use mathlib.Core.List.{List, _++_, map, append-assoc}
+use mathlib.Core.List.{List, _++_, map, append-assoc, List·Memᴰ as In}
 use Prim.Native.Nat.{ℕ, suc, _+_, _-_, _/_, _≤_, _<_}
 use native.Mathlib.Omega.{arith}
 use lib.ListN.{length, take, drop, getD, length-append, length-take, length-drop, length-map}
@@ -9,18 +9,21 @@ use lib.Seq.{length-take-le, take-append-le, take-take, drop-append-add, drop-at
 use Rattle.definitions.specs.declared.Order.{Order}
 use Rattle.definitions.specs.Words.{placed}
 use Rattle.definitions.specs.Table.{rankOf, tableOf, spelled}
-use Rattle.definitions.specs.Occurrences.{occurrences}
+use Rattle.definitions.specs.Occurrences.{isLive, liveCuts, occurrences}
+use Rattle.lists.specs.Bools.{cond-true}
 use Rattle.lists.specs.Lists.{placed-length}
-use Rattle.lists.specs.Parts.{part, part-front}
+use Rattle.lists.specs.Numbers.{below-lt}
+use Rattle.lists.specs.Parts.{part, part-at, part-front}
+use Rattle.lyndon.specs.Cuts.{live-cut}
+use Rattle.lyndon.specs.Joins.{triedCuts, tried-live}
 use Rattle.lyndon.specs.Ranks.{slice-bytes}
 use Rattle.lyndon.specs.Reading.{table-spelled}
 use Rattle.lyndon.specs.Occurrences.{occurrences-marked}
 use Rattle.cuts.specs.Flags.{patternFlags}
-use Rattle.cuts.proofs.Flags.{pattern-flags-length}
+use Rattle.cuts.proofs.Flags.{pattern-flags-length, pattern-flag-at}
 use Rattle.places.specs.Places.{Placed}
 use Rattle.search.specs.Found.{occursIn}
 use Rattle.search.specs.Searching.{Pattern, Counting, Searched}
-use Rattle.search.proofs.Joining.{tried-flagged}
 use Rattle.search.proofs.Standing.{placed-outside}
 
 pub pattern-here : (p : List ℕ) → 0 < length p → length p ≤ 2047 → ((i : ℕ) → i < length p → getD p i 0 < 256) → Pattern p
@@ -53,6 +56,19 @@ module _ (w z : List ℕ) (a n : ℕ) (fits : a + n ≤ length w) (size : length
       ∙ ap (drop k) (drop-drop n a w)
       ∙ drop-drop k (a + n) w
       ∙ ap (λ (i : ℕ). drop i w) (sym (e ∙ s))
+
+-- ---- flags
+
+-- the flags of the live cuts, which stand from 8,960 on, are flags of those that are tried
+tried-flagged : (o : Order) (p w : List ℕ) → part 8960 (length p) w ≡ patternFlags o p → (c : ℕ) → In c (triedCuts (map (rankOf o) p)) → getD w (8960 + c) 0 ≡ 0 → ⊥
+unfolding liveCuts
+tried-flagged o p w e c m z =
+    let P : List ℕ = map (rankOf o) p in
+    let (k, l) = below-lt (isLive P) (length P) c (live-cut P c .1 (tried-live P c m)) in
+    let h : c < length p = omega (arith, length-map p (rankOf o)) in
+    omega (arith, sym z ∙ sym (part-at 8960 (length p) w c 0 h) ∙ ap (λ (x : List ℕ). getD x c 0) e ∙ pattern-flag-at o p c h ∙ cond-true (isLive P c) 1 0 l)
+
+-- ---- the start
 
 pub counting-start : (o : Order) (p text : List ℕ) (chair : ℕ) (w z : List ℕ) (n : ℕ) → Placed o text chair w → Pattern p → n ≡ 2048
     → z ≡ placed (patternFlags o p) (take n (drop 8960 w)) → Counting o p text chair 0 (take 8960 w ++ (z ++ drop n (drop 8960 w)))

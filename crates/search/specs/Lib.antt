@@ -1,4 +1,2 @@
 pub mod Found
-pub mod Areas
 pub mod Searching
-pub mod Listing

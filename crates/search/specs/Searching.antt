@@ -1,20 +1,16 @@
--- What the work slice holds while the occurrences of a pattern are counted and listed: beside what `Placed` says, flags of the cuts that
+-- What the work slice holds while the occurrences of a pattern are counted: beside what `Placed` says, flags of the cuts that
 -- are tried, from 8,960 on, and what is found in each rule, from 6,656 on. p is the pattern as bytes.
 use mathlib.Core.Path.{_≡_}
 use mathlib.Core.Bool.{true}
-use mathlib.Core.List.{List, map, List·Memᴰ as In}
+use mathlib.Core.List.{List, map}
 use Prim.Native.Nat.{ℕ, _+_, _*_, _/_, _≤_, _<_}
 use lib.ListN.{length, getD}
 use Rattle.definitions.specs.declared.Order.{Order}
 use Rattle.definitions.specs.Table.{rankOf, tableOf, isPair, kindOf, numberOf}
-use Rattle.lyndon.specs.Joins.{triedCuts}
 use Rattle.lyndon.specs.Ranks.{Bytes}
 use Rattle.places.specs.Places.{Placed}
+use Rattle.joins.specs.Joining.{Flagged}
 use Rattle.search.specs.Found.{FoundIn}
-
--- no cut that is tried has the flag 0; p as ranks
-abbrev pub Flagged : List ℕ → List ℕ → Type 0
-Flagged p w = (c : ℕ) → In c (triedCuts p) → getD w (8960 + c) 0 ≡ 0 → ⊥
 
 -- 1 to 2,047 samples, each a byte
 pub record Pattern (p : List ℕ) : Type 0 where
@@ -69,11 +65,3 @@ pub record Pair (o : Order) (p : List ℕ) (r u v : ℕ) (w : List ℕ) : Type 0
   pub is-pair : isPair (tableOf o (turn .text) (turn .chair)) r ≡ true
   pub left : u ≡ numberOf (getD (tableOf o (turn .text) (turn .chair)) (2 * r) 0)
   pub right : v ≡ numberOf (getD (tableOf o (turn .text) (turn .chair)) (2 * r + 1) 0)
-
--- all rules are counted, for some pattern
-pub record Finds (w : List ℕ) : Type 0 where
-  pub order : Order
-  pub pattern : List ℕ
-  pub text : List ℕ
-  pub chair : ℕ
-  pub searched : Searched order pattern text chair w

@@ -2,17 +2,17 @@
 -- accepted table spells the drive (`root-bytes`).
 use mathlib.Core.Path.{_≡_, refl, sym, _∙_, ap, ap₂}
 use mathlib.Core.Bool.{true}
-use mathlib.Core.List.{List, [], _∷_, _++_, map, map-append, append-assoc, append-nil, List·Memᴰ·head as here, List·Memᴰ·tail as there}
+use mathlib.Core.List.{List, [], _∷_, _++_, map, map-append, List·Memᴰ·head as here, List·Memᴰ·tail as there}
 use Prim.Native.Nat.{ℕ, zero, suc, _+_, _-_, _*_, _/_, _%_, _≤_, _<_}
 use native.Mathlib.Omega.{arith}
 use native.Mathlib.Numerals.{add-one}
-use lib.ListN.{length, take, drop, getD, set, length-append, length-drop, length-map, drop-of-length-le}
-use lib.Seq.{drop-at, take-at, drop-drop, take-all, take-suc, length-take-le}
+use lib.ListN.{length, take, getD, set, length-append, length-map}
+use lib.Seq.{take-suc, length-take-le}
 use Rattle.definitions.specs.declared.Order.{Order}
 use Rattle.definitions.specs.declared.Order.the-variants.{Unsigned}
 use Rattle.definitions.specs.Words.{placed}
 use Rattle.definitions.specs.Table.{rankOf, byteOf, rankOfNumber, marked, kindOf, numberOf, ruleString, spelled, textOf, isTable}
-use Rattle.lists.specs.Lists.{placed-length, placed-more}
+use Rattle.lists.specs.Lists.{placed-more}
 use Rattle.lyndon.specs.Ranks.{Bytes, rank-range, byte-of-rank}
 use Rattle.lyndon.specs.Reading.{accepted-stored}
 use Rattle.lyndon.specs.Shapes.{Shaped, Shape, one, two, shape, symbol-string, pair-string}
@@ -136,22 +136,6 @@ sample-placed (suc b) [] h l = absurd (omega arith)
 sample-placed (suc b) (a ∷ old) h l =
     let e : suc b - 1 ≡ b = omega arith in
     rw e
-
--- ---- the halves of a pair, one behind the other in a slice
-
-pub placed-halves : (u v old w z : List ℕ) (n : ℕ) → n ≡ length u → length u + length v ≤ length old → w ≡ placed u old
-    → z ≡ placed v (take (length w - n) (drop n w)) → take n w ++ (z ++ drop (length w - n) (drop n w)) ≡ placed (u ++ v) old
-unfolding placed
-placed-halves u v old w z n e h f g =
-    let behind : drop n w ≡ drop (length u) old = ap (drop n) f ∙ drop-at u (drop (length u) old) n (sym e) in
-    let before : take n w ≡ u = ap (take n) f ∙ take-at u (drop (length u) old) n (sym e) in
-    let size : length w ≡ length old = ap length f ∙ placed-length u old (omega arith) in
-    let rest : length (drop n w) ≤ length w - n = omega (arith, length-drop n w) in
-    ap₂ {C = List ℕ} (λ a b. a ++ b) before
-    (ap₂ {C = List ℕ} (λ a b. a ++ b) (g ∙ ap (placed v) (take-all (length w - n) (drop n w) rest ∙ behind)) (drop-of-length-le (drop n w) rest)
-    ∙ append-nil (placed v (drop (length u) old)))
-    ∙ sym (append-assoc u v (drop (length v) (drop (length u) old)))
-    ∙ ap (λ (l : List ℕ). (u ++ v) ++ l) (drop-drop (length v) (length u) old ∙ ap (λ (k : ℕ). drop k old) (sym (length-append u v)))
 
 -- ---- samples of ranks in a slice
 

@@ -18,7 +18,7 @@ use Rattle.lyndon.specs.Ranks.{Bytes, rank-of-byte, byte-range, rank-range, is-
 use Rattle.lyndon.specs.Reading.{Stored, accepted-stored, accepted-spelled}
 use Rattle.lyndon.specs.Shapes.{string-ranks, chair-small}
 use Rattle.grammar.specs.Loaded.{Marked, Loaded, loaded-words, rules-most}
-use Rattle.tables.specs.Expansion.{Front, Rooted}
+use Rattle.tables.specs.Loading.{Front, Rooted}
 
 -- ---- ranks of samples
 

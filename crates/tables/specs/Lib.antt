@@ -1,1 +1,1 @@
-pub mod Expansion
+pub mod Loading

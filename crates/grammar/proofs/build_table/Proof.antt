@@ -5,7 +5,7 @@ use Prim.Native.Nat.{ℕ}
 use lib.ListN.{length}
 use borrow.Author.Needs.{needs}
 use Rattle.definitions.specs.Grammar.{Rule}
-use Rattle.grammar.specs.Areas.{Rules}
+use Rattle.stack.specs.Areas.{Rules}
 use Rattle.grammar.specs.Loaded.{Loaded}
 use Rattle.grammar.proofs.Tabling.{ended-numbers, ended-numbered, rules-size, tabled}
 use Rattle.grammar.proofs.build_table.Statement.{statement}

@@ -4,7 +4,7 @@ use mathlib.Core.Path.{_≡_, refl, _∙_}
 use Prim.Native.Nat.{_≤_, _-_}
 use native.Mathlib.Omega.{arith}
 use lib.ListN.{length}
-use Rattle.grammar.specs.Areas.{Below}
+use Rattle.stack.specs.Areas.{Below}
 use Rattle.grammar.proofs.Stepping.{Stage, stage-start, stage-steps, stage-next, stage-end}
 use Rattle.grammar.proofs.number.Statement.{statement}
 use Rattle.grammar.proofs.number.Tie as tie

@@ -4,7 +4,7 @@ use mathlib.Core.List.{List}
 use lib.ListN.{length}
 use borrow.Author.Needs.{needs}
 use Rattle.definitions.specs.Grammar.{Rule}
-use Rattle.grammar.specs.Areas.{Rules}
+use Rattle.stack.specs.Areas.{Rules}
 use Rattle.grammar.proofs.Tabling.{cleared-numbers, cleared-buckets, cleared-numbered, cleared-stays}
 use Rattle.grammar.proofs.rules.Statement.{statement}
 use Rattle.grammar.proofs.rules.Tie as tie

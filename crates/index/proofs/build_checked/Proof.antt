@@ -1,5 +1,5 @@
 -- `build_checked` builds in the front of the work slice, and clears it.
-use Rattle.index.proofs.Fronts.{work-cleared}
+use Rattle.checks.proofs.Fronts.{work-cleared}
 use borrow.Author.Needs.{needs}
 use Rattle.index.proofs.build_checked.Statement.{statement}
 use Rattle.index.proofs.build_checked.Tie as tie

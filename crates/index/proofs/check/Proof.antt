@@ -7,7 +7,7 @@ use Rattle.definitions.specs.declared.Order.the-variants.{Unsigned}
 use Rattle.definitions.specs.Services.{outcomeOf, notATable, tableChecks, checkService}
 use Rattle.checks.specs.Checks.{checked, delivered, shapeChecks}
 use Rattle.checks.proofs.Serving.{answered-one, refused-front, decided, done-all, done-value}
-use Rattle.checks.proofs.Shaping.{shape-keeps, passed-shaped}
+use Rattle.shapes.proofs.Shaping.{shape-keeps, passed-shaped}
 use borrow.Author.Needs.{needs}
 use Rattle.index.proofs.check.Statement.{statement}
 use Rattle.index.proofs.check.Tie as tie

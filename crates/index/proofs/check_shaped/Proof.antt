@@ -3,7 +3,7 @@ use mathlib.Core.Path.{_∙_, ap}
 use mathlib.Core.Bool.{cond, not}
 use Rattle.definitions.specs.declared.Answer.{Answer}
 use Rattle.definitions.specs.declared.Answer.the-variants.{Done, Refused}
-use Rattle.index.proofs.Fronts.{work-cleared}
+use Rattle.checks.proofs.Fronts.{work-cleared}
 use borrow.Author.Needs.{needs}
 use Rattle.index.proofs.check_shaped.Statement.{statement}
 use Rattle.index.proofs.check_shaped.Tie as tie

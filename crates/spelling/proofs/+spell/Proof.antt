@@ -5,8 +5,9 @@ use Prim.Native.Nat.{ℕ, _+_, _-_, _*_, _%_, _<_}
 use native.Mathlib.Omega.{arith}
 use borrow.Author.Needs.{needs}
 use Rattle.definitions.specs.Words.{placed}
+use Rattle.lists.specs.Lists.{placed-both}
 use Rattle.spelling.specs.Spelling.{ruleBytes}
-use Rattle.spelling.proofs.Spelling.{Halves, spelled-symbol, spelled-pair, halves-size, placed-halves}
+use Rattle.spelling.proofs.Spelling.{Halves, spelled-symbol, spelled-pair, halves-size}
 use lib.ListN.{length, take, drop, getD, length-take, length-drop}
 use borrow.Fn.Kinds.{In}
 use borrow.Fn.PlainCycle.{Measures, is, falls, and}
@@ -153,7 +154,7 @@ spell-returns-2 t c =
     let rest = take (length w - called .spell .result) (drop (called .spell .result) w) in
     let right : again .spell2 .last .1 .1 .0 ≡ placed (ruleBytes t′ v) rest = again .spell2 .ensures .1 ∙ ap (λ (q : ℕ). placed (ruleBytes t′ q) rest) (again .before .before .wide2 .ensures) in (
       omega (arith, size, l),
-      placed-halves (ruleBytes t′ u) (ruleBytes t′ v) old w (again .spell2 .last .1 .1 .0) (called .spell .result) k
+      placed-both (ruleBytes t′ u) (ruleBytes t′ v) old w (again .spell2 .last .1 .1 .0) (called .spell .result) k
           (omega (arith, size, k, s .pre .1 .2)) left right
           ∙ ap (λ (q : List ℕ). placed q old) (sym (h .bytes)),
     )

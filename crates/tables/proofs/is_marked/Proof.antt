@@ -1,3 +1,4 @@
+-- `is_marked` looks for a second mark. The loop's invariant: none of the symbols passed is one.
 use mathlib.Core.Path.{_≡_}
 use mathlib.Core.Bool.{true, false}
 use Prim.Native.Nat.{ℕ, _-_, _≤_, _<_}

@@ -1,0 +1,68 @@
+// The lowest word of a table from anywhere that no table has at its place.
+use ends::layout::KIND_1;
+use slices::wide;
+ghost use mathlib.Core.Path.{_≡_};
+ghost use Prim.Native.Nat.{_*_, _/_};
+ghost use lib.ListN.{length};
+ghost use Rattle.definitions.specs.Words.{least};
+ghost use Rattle.definitions.specs.Table.{badFirst, badSecond, badWord};
+
+// The lowest index of a bad word, the table's length if there is none.
+pub fn bad_word(table: &[u32]) -> usize
+    requires { ⌜ length (now table) ≡ 2 * (length (now table) / 2) ⌝ }
+    ensures { λ r. ⌜ r ≡ least (badWord (now (table .entry))) (length (now (table .entry))) ⌝ }
+{
+    let n = table.len() / 2;
+    let mut r = 0;
+    while r < n {
+        let x = table[2 * r];
+        let y = table[2 * r + 1];
+        if bad_first(r, x) {
+            return 2 * r;
+        }
+        if bad_second(r, x, y) {
+            return 2 * r + 1;
+        }
+        r += 1;
+    }
+    table.len()
+}
+
+// Whether x is bad as the first word of rule r.
+fn bad_first(r: usize, x: u32) -> bool
+    ensures { λ b. ⌜ b ≡ badFirst r x ⌝ }
+{
+    let kind = x / KIND_1;
+    let number = x % KIND_1;
+    if kind == 0 {
+        return 256 < number;
+    }
+    if kind == 1 {
+        return r <= wide(number);
+    }
+    true
+}
+
+// Whether y is bad as the second word of rule r, after x.
+fn bad_second(r: usize, x: u32, y: u32) -> bool
+    ensures { λ b. ⌜ b ≡ badSecond r x y ⌝ }
+{
+    let kind = x / KIND_1;
+    let number = y % KIND_1;
+    if kind == 1 {
+        if y / KIND_1 == 2 {
+            return r <= wide(number);
+        }
+        return true;
+    }
+    if kind == 0 {
+        if y / KIND_1 == 3 {
+            if r == 0 {
+                return 65535 < number;
+            }
+            return 0 < number;
+        }
+        return true;
+    }
+    false
+}

@@ -1,0 +1,85 @@
+-- What the programs print: decimal numbers, lines and refusals, and all that `motif` prints of its input (document 01, "Samples from the
+-- desk"). Input and output are lists of bytes.
+use Prim.Native.Nat.{ℕ, zero, suc, _+_, _/_, _%_}
+use mathlib.Core.Bool.{false, cond}
+use mathlib.Core.List.{List, [], _∷_, _++_}
+use lib.ListN.{length}
+use lib.Dec.{ltb, eqb}
+use Rattle.definitions.specs.declared.Order.{Order}
+use Rattle.definitions.specs.Table.{tableOf}
+use Rattle.definitions.specs.Occurrences.{occurrences}
+use Rattle.definitions.specs.Services.{Check, check, firstMet, textTooLong, patternChecks}
+
+-- ---- numbers and lines
+
+-- the last k decimal digits of n; the digit 0 is byte 48
+unfoldable pub digits : ℕ → ℕ → List ℕ
+digits zero n = []
+digits (suc k) n = digits k (n / 10) ++ ((48 + n % 10) ∷ [])
+
+-- how many digits a number below 10,000 has
+unfoldable pub digitCount : ℕ → ℕ
+digitCount n = cond (ltb n 10) 1 (cond (ltb n 100) 2 (cond (ltb n 1000) 3 4))
+
+-- a number below 10,000 in decimal, without leading zeros
+unfoldable pub decimal : ℕ → List ℕ
+decimal n = digits (digitCount n) n
+
+-- what stands in a line, and the byte that ends it
+unfoldable pub line : List ℕ → List ℕ
+line l = l ++ (10 ∷ [])
+
+-- a line that begins with a name, which ends with a space, and then has a number
+unfoldable pub named : List ℕ → ℕ → List ℕ
+named name n = name ++ line (decimal n)
+
+-- numbers, each on a line
+unfoldable pub decimalLines : List ℕ → List ℕ
+decimalLines [] = []
+decimalLines (n ∷ l) = line (decimal n) ++ decimalLines l
+
+-- ---- refusals: every program prints only the number of the first check that is met
+
+-- `refused `
+abbrev pub refusedName : List ℕ
+refusedName = 114 ∷ 101 ∷ 102 ∷ 117 ∷ 115 ∷ 101 ∷ 100 ∷ 32 ∷ []
+
+unfoldable pub refusedLine : Check → List ℕ
+refusedLine c = named refusedName (c .number)
+
+unfoldable pub printed : List Check → List ℕ → List ℕ
+printed checks l = firstMet checks refusedLine l
+
+-- ---- the program `motif`
+
+-- the bytes before the first byte 10, and those after it; with no byte 10 all is motif and the drive is empty
+unfoldable pub motifOf : List ℕ → List ℕ
+motifOf [] = []
+motifOf (b ∷ input) = cond (eqb b 10) [] (b ∷ motifOf input)
+
+unfoldable pub driveOf : List ℕ → List ℕ
+driveOf [] = []
+driveOf (b ∷ input) = cond (eqb b 10) input (driveOf input)
+
+abbrev pub inputTooLong : List ℕ → Check
+inputTooLong input = check (ltb 4095 (length input)) 1 0 false
+
+-- `rules `
+abbrev pub rulesName : List ℕ
+rulesName = 114 ∷ 117 ∷ 108 ∷ 101 ∷ 115 ∷ 32 ∷ []
+
+-- `found `
+abbrev pub foundName : List ℕ
+foundName = 102 ∷ 111 ∷ 117 ∷ 110 ∷ 100 ∷ 32 ∷ []
+
+-- how many positions there are, and each of them
+unfoldable pub foundLines : List ℕ → List ℕ
+foundLines positions = named foundName (length positions) ++ decimalLines positions
+
+-- the drive is built before the motif is looked at; the chair number is 0
+unfoldable pub motifOutput : Order → List ℕ → List ℕ
+motifOutput o input =
+    let motif = motifOf input in
+    let drive = driveOf input in
+    printed (inputTooLong input ∷ textTooLong drive ∷ patternChecks motif)
+    (named rulesName (length (tableOf o drive 0) / 2) ++ foundLines (occurrences motif drive))

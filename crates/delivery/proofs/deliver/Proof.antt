@@ -1,0 +1,54 @@
+-- `deliver` copies where the result slice is long enough, and else refuses.
+use lib.ListN.{length}
+use borrow.Author.Tests.{ltb-false}
+use Rattle.definitions.specs.Services.{resultTooShort}
+use Rattle.checks.proofs.Answers.{refused-met, done-met}
+use borrow.Author.Needs.{needs}
+use Rattle.delivery.proofs.deliver.Statement.{statement}
+use Rattle.delivery.proofs.deliver.Tie as tie
+
+result-fits-requires : tie.Need-result-fits-requires
+result-fits-requires c κs = search needs
+
+enum-told : tie.Need-enum-told
+enum-told c = search needs
+
+enum-told-2 : tie.Need-enum-told-2
+enum-told-2 c = search needs
+
+returns : tie.Need-returns
+returns c =
+    let f = c .before .before in
+    let a = f .before .before .before .args in
+    let short = refused-met (resultTooShort (length (a .words .now)) (length (a .result .now))) (length (a .words .now)) _ _ (f .result-fits .result) (f .result-fits .ensures) (c .enum-told2 .given .1) in
+    (f .result-fits .ensures, rw short)
+
+copy-requires : tie.Need-copy-requires
+copy-requires c κs =
+    let f = c .before .before .before in
+    let a = f .before .before .before .args in
+    ltb-false (length (a .result .now)) (length (a .words .now))
+    (done-met (resultTooShort (length (a .words .now)) (length (a .result .now))) (length (a .words .now)) _ (f .result-fits .result) (f .result-fits .ensures) (c .before .enum-told .given .1))
+
+same-length : tie.Need-same-length
+same-length c = search needs
+
+returns-2 : tie.Need-returns-2
+returns-2 c =
+    let p = c .before .before in
+    let f = p .before .before .before .before in
+    let a = f .before .before .before .args in
+    let fits = done-met (resultTooShort (length (a .words .now)) (length (a .result .now))) (length (a .words .now)) _ (f .result-fits .result) (f .result-fits .ensures) (p .before .before .enum-told .given .1) in
+    (f .result-fits .ensures, rw fits (p .copy .ensures))
+
+pub deliver-spec : {M : Type 1} → statement M
+deliver-spec =
+    tie.close
+    (tie.spec
+    result-fits-requires
+    enum-told
+    enum-told-2
+    returns
+    copy-requires
+    same-length
+    returns-2)

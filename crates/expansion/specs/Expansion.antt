@@ -1,0 +1,49 @@
+-- The walk that expands a table's root: what is written, what the current rule spells and what the pending rules spell are together
+-- what the table spells.
+use mathlib.Core.Path.{_≡_}
+use mathlib.Core.List.{List, [], _++_}
+use Prim.Native.Nat.{ℕ, zero, suc, _+_, _/_, _≤_, _<_}
+use lib.ListN.{length, getD}
+use Rattle.definitions.specs.declared.Order.{Order}
+use Rattle.definitions.specs.Table.{ruleString, spelled}
+use Rattle.lists.specs.Parts.{part}
+use Rattle.lyndon.specs.Shapes.{Shaped}
+use Rattle.expansion.specs.declared.Turn.{Turn}
+use Rattle.expansion.specs.declared.Turn.the-variants.{Next, Whole}
+
+-- what the d pending rules spell, the top first; they stand from 6,144 on
+unfoldable pub pendingIn : Order → List ℕ → List ℕ → ℕ → List ℕ
+pendingIn o t w zero = []
+pendingIn o t w (suc d) = ruleString o t (getD w (6144 + d) 0) ++ pendingIn o t w d
+
+pub record Expanding (o : Order) (t w : List ℕ) (rule written pending : ℕ) : Type 0 where
+  pub low : rule < length t / 2
+  pub rules : (k : ℕ) → k < pending → getD w (6144 + k) 0 < length t / 2
+  pub whole : spelled o t ≡ part 0 written w ++ (ruleString o t rule ++ pendingIn o t w pending)
+
+-- the walk can go on
+pub record Steps (o : Order) (t w : List ℕ) (rule written pending : ℕ) : Type 0 where
+  pub shaped : Shaped t
+  pub most : length t ≤ 4608
+  pub long : 16384 ≤ length w
+  pub room : written + pending < 2048
+  pub expanding : Expanding o t w rule written pending
+
+-- what follows a symbol, and a pair
+unfoldable pub afterSymbol : List ℕ → ℕ → ℕ → Turn
+afterSymbol w written zero = Whole (written + 1)
+afterSymbol w written (suc d) = Next (record { rule = getD w (6144 + d) 0; written = written + 1; pending = d })
+
+unfoldable pub afterPair : ℕ → ℕ → ℕ → Turn
+afterPair left written pending = Next (record { rule = left; written = written; pending = pending + 1 })
+
+-- the walk has gone on, one nearer to its end; or it is at its end
+abbrev pub Stepped : Order → List ℕ → List ℕ → ℕ → ℕ → Turn → Type 0
+Stepped o t w written pending (Next p) =
+    Expanding o t w (p .rule) (p .written) (p .pending) × (p .written + p .written + p .pending ≡ suc (written + written + pending)) × (p .written + p .pending ≤ 2048)
+Stepped o t w written pending (Whole n) = (0 < n) × (n ≤ 2048) × (part 0 n w ≡ spelled o t)
+
+-- r symbols are written and are all that the table spells; 0: it spells more than 2,048
+pub record Expanded (o : Order) (t w : List ℕ) (r : ℕ) : Type 0 where
+  pub whole : 0 < r → (r ≤ 2048) × (part 0 r w ≡ spelled o t)
+  pub long : r ≡ 0 → 2048 < length (spelled o t)

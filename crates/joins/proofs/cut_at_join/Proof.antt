@@ -1,0 +1,95 @@
+-- `cut_at_join` tries the cuts that fit upwards. The loop's invariant: at none of those passed the pattern stands across the join.
+use mathlib.Core.Path.{_≡_, refl}
+use Prim.Native.Nat.{suc, _+_, _-_, _≤_, min}
+use native.Mathlib.Omega.{arith}
+use lib.ListN.{length}
+use Rattle.joins.proofs.Joining.{Missed, missed-none, missed-more, join-hit, join-miss}
+use Rattle.joins.proofs.cut_at_join.Statement.{statement}
+use Rattle.joins.proofs.cut_at_join.Tie as tie
+
+abbrev Inv-loop : tie.InvT-loop
+Inv-loop order pattern work at left right m join end c₀ c =
+    (c₀ ≤ c) × (m ≡ length pattern) × (join ≡ at + left) × (end ≡ min (length pattern) (suc left)) × (c₀ ≡ 1 + (length pattern - right - 1))
+    × Missed order pattern work join c₀ c
+
+abbrev μ-loop : tie.MeasureT-loop
+μ-loop order pattern work at left right m join end c₀ c = end - c
+
+add-join : tie.Need-add-join Inv-loop μ-loop
+add-join c = omega arith
+
+end-of-cuts-requires : tie.Need-end-of-cuts-requires Inv-loop μ-loop
+end-of-cuts-requires c κs = omega arith
+
+first-cut-requires : tie.Need-first-cut-requires Inv-loop μ-loop
+first-cut-requires c κs = tt
+
+loop-holds : tie.Need-loop-holds Inv-loop μ-loop
+loop-holds c =
+    let a = c .before .before .before .before .args in
+    let first = c .first-cut .result in
+    (omega arith, refl, refl, c .before .end-of-cuts .ensures, c .first-cut .ensures, missed-none (a .order) (a .pattern .now) (a .work .now) (a .at + a .left) first)
+
+sub-is-cut : tie.Need-sub-is-cut Inv-loop μ-loop
+sub-is-cut c = omega arith
+
+is-cut-requires : tie.Need-is-cut-requires Inv-loop μ-loop
+is-cut-requires c κs =
+    let at = c .before in
+    let s = at .before .before .before .before .before in
+    (s .pre .2, omega arith, s .pre .1, omega arith, s .pre .4)
+
+returns : tie.Need-returns Inv-loop μ-loop
+returns c =
+    let k = c .before in
+    let at = k .before .before in
+    let s = at .before .before .before .before .before in
+    let a = s .args in
+    join-hit (a .order) (a .pattern .now) (a .work .now) (a .at) (a .left) (a .right) (omega arith) (a .at + a .left) (at .loop .c) refl
+    (omega arith) (omega arith) (omega arith) (omega arith) (k .is-cut .ensures .0 (c .if1 .taken))
+
+add-c : tie.Need-add-c Inv-loop μ-loop
+add-c c = omega arith
+
+loop-less : tie.Need-loop-less Inv-loop μ-loop
+loop-less c = omega arith
+
+loop-again : tie.Need-loop-again Inv-loop μ-loop
+loop-again c =
+    let k = c .before in
+    let at = k .before .before in
+    let s = at .before .before .before .before .before in
+    let a = s .args in (
+      omega arith,
+      refl,
+      refl,
+      at .loop .inv .3,
+      at .loop .inv .4,
+      missed-more (a .order) (a .pattern .now) (a .work .now) (a .at + a .left) (at .before .first-cut .result) (at .loop .c) (at .loop .inv .5) (k .is-cut .ensures .1 (c .if1 .left)),
+    )
+
+returns-2 : tie.Need-returns-2 Inv-loop μ-loop
+returns-2 c =
+    let at = c .before in
+    let s = at .before .before .before .before .before in
+    let a = s .args in
+    join-miss (a .order) (a .pattern .now) (a .work .now) (a .at) (a .left) (a .right) (omega arith) (a .at + a .left) (at .before .first-cut .result) (at .before .before .end-of-cuts .result) (at .loop .c) refl
+    (s .pre .0) (at .loop .inv .4) (at .loop .inv .3) (c .loop-test .left) (at .loop .inv .5)
+
+pub cut-at-join-spec : {M : Type 1} → statement M
+cut-at-join-spec =
+    tie.close
+    (tie.spec
+    Inv-loop
+    μ-loop
+    add-join
+    end-of-cuts-requires
+    first-cut-requires
+    loop-holds
+    sub-is-cut
+    is-cut-requires
+    returns
+    add-c
+    loop-less
+    loop-again
+    returns-2)

@@ -1,0 +1,90 @@
+// Testing a join: whether a pattern straddles two strings that stand one behind the other, and at which of its live cuts.
+pub mod areas;
+
+use areas::LIVE;
+use definitions::Order;
+use ends::rank_of;
+ghost use mathlib.Core.Path.{_≡_};
+ghost use mathlib.Core.Bool.{true, false};
+ghost use mathlib.Core.List.{map, List·Memᴰ as In};
+ghost use Prim.Native.Nat.{suc, _+_, _-_, _≤_, _<_, min};
+ghost use lib.ListN.{length};
+ghost use Rattle.definitions.specs.Words.{same};
+ghost use Rattle.definitions.specs.Table.{rankOf};
+ghost use Rattle.lists.specs.Parts.{part};
+ghost use Rattle.lyndon.specs.Joins.{triedCuts};
+ghost use Rattle.joins.specs.Joining.{Flagged, JoinCut};
+
+// The cut at which the pattern straddles the join of two strings that stand one behind the other, 0 if it does not. Live cuts are tried
+// upwards, where both parts of the pattern fit; at most one occurrence straddles.
+pub fn cut_at_join(
+    order: Order,
+    pattern: &[u8],
+    work: &[u32],
+    at: usize,
+    left: usize,
+    right: usize,
+) -> usize
+    requires { ⌜ (0 < length (now pattern)) × (length (now pattern) ≤ 2047) × Flagged (map (rankOf order) (now pattern)) (now work) × (at + left + right ≤ 2048) × (16384 ≤ length (now work)) ⌝ }
+    ensures { λ c. ⌜ JoinCut (map (rankOf order) (now (pattern .entry))) (part at left (now (work .entry))) (part (at + left) right (now (work .entry))) c ⌝ }
+{
+    let m = pattern.len();
+    let join = at + left;
+    let end = end_of_cuts(m, left);
+    let mut c = first_cut(m, right);
+    while c < end {
+        if is_cut(order, pattern, work, c, join - c) {
+            return c;
+        }
+        c += 1;
+    }
+    0
+}
+
+// The first cut of m samples whose tail fits into `right` symbols.
+fn first_cut(m: usize, right: usize) -> usize
+    ensures { λ c. ⌜ c ≡ 1 + (m - right - 1) ⌝ }
+{
+    if right < m {
+        return m - right;
+    }
+    1
+}
+
+// Behind the last cut of m samples whose front fits into `left` symbols.
+fn end_of_cuts(m: usize, left: usize) -> usize
+    requires { ⌜ left ≤ 2048 ⌝ }
+    ensures { λ c. ⌜ c ≡ min m (suc left) ⌝ }
+{
+    if m <= left {
+        return m;
+    }
+    left + 1
+}
+
+// Whether cut c is live and the pattern stands at a place.
+fn is_cut(order: Order, pattern: &[u8], work: &[u32], c: usize, at: usize) -> bool
+    requires { ⌜ Flagged (map (rankOf order) (now pattern)) (now work) × (c < length (now pattern)) × (length (now pattern) ≤ 2047) × (at + length (now pattern) ≤ 2048) × (16384 ≤ length (now work)) ⌝ }
+    ensures { λ b. ⌜ (b ≡ true → part at (length (now (pattern .entry))) (now (work .entry)) ≡ map (rankOf order) (now (pattern .entry))) × (b ≡ false → In c (triedCuts (map (rankOf order) (now (pattern .entry)))) → part at (length (now (pattern .entry))) (now (work .entry)) ≡ map (rankOf order) (now (pattern .entry)) → ⊥) ⌝ }
+{
+    if work[LIVE + c] == 0 {
+        return false;
+    }
+    let end = at + pattern.len();
+    matches(order, pattern, &work[at..end])
+}
+
+// Whether ranks are those of the pattern.
+fn matches(order: Order, pattern: &[u8], ranks: &[u32]) -> bool
+    requires { ⌜ length (now ranks) ≡ length (now pattern) ⌝ }
+    ensures { λ b. ⌜ b ≡ same (map (rankOf order) (now (pattern .entry))) (now (ranks .entry)) ⌝ }
+{
+    let mut i = 0;
+    while i < pattern.len() {
+        if rank_of(order, pattern[i]) != ranks[i] {
+            return false;
+        }
+        i += 1;
+    }
+    true
+}

@@ -1,0 +1,36 @@
+-- `list_cut` lists the one occurrence at a join, or none.
+use mathlib.Core.Path.{_∙_, ap}
+use mathlib.Core.List.{List}
+use Prim.Native.Nat.{ℕ}
+use native.Mathlib.Omega.{arith}
+use Rattle.definitions.specs.Words.{placed}
+use Rattle.listing.proofs.Drives.{drive-cut-none, drive-cut-one}
+use borrow.Author.Needs.{needs}
+use Rattle.listing.proofs.list_cut.Statement.{statement}
+use Rattle.listing.proofs.list_cut.Tie as tie
+
+returns : tie.Need-returns
+returns c =
+    let a = c .before .before .args in
+    (omega arith, drive-cut-none (a .join) (a .c) (a .result .now) (c .if1 .taken))
+
+sub-list-one : tie.Need-sub-list-one
+sub-list-one c = search needs
+
+list-one-requires : tie.Need-list-one-requires
+list-one-requires c κs = search needs
+
+same-length : tie.Need-same-length
+same-length c = search needs
+
+returns-2 : tie.Need-returns-2
+returns-2 c =
+    let o = c .before .before in
+    let e = o .before .before in
+    let a = e .before .before .args in (
+      omega (arith, o .list-one .ensures .0, e .if1 .left),
+      o .list-one .ensures .1 ∙ ap (λ (l : List ℕ). placed l (a .result .now)) (drive-cut-one (a .join) (a .c) (e .if1 .left)),
+    )
+
+pub list-cut-spec : {M : Type 1} → statement M
+list-cut-spec = tie.close (tie.spec returns sub-list-one list-one-requires same-length returns-2)

@@ -1,0 +1,13 @@
+-- `refusal` is its definition.
+use mathlib.Core.Path.{refl}
+use Rattle.definitions.specs.Services.{numbersOf}
+use Rattle.replies.specs.Replies.{replyNumbers}
+use Rattle.replies.proofs.refusal.Statement.{statement}
+use Rattle.replies.proofs.refusal.Tie as tie
+
+returns : tie.Need-returns
+unfolding replyNumbers numbersOf
+returns c = refl
+
+pub refusal-spec : {M : Type 1} → statement M
+refusal-spec = tie.close (tie.spec returns)

@@ -1,0 +1,13 @@
+-- `success` is its definition.
+use mathlib.Core.Path.{refl}
+use Rattle.definitions.specs.Services.{numbersOf}
+use Rattle.replies.specs.Replies.{replyNumbers}
+use Rattle.replies.proofs.success.Statement.{statement}
+use Rattle.replies.proofs.success.Tie as tie
+
+returns : tie.Need-returns
+unfolding replyNumbers numbersOf
+returns c = refl
+
+pub success-spec : {M : Type 1} → statement M
+success-spec = tie.close (tie.spec returns)

@@ -1,0 +1,125 @@
+-- `push_rule` looks the rule up, adds it if it is not found, and stores its number on the stack.
+use mathlib.Core.Path.{sym, subst}
+use borrow.Author.Needs.{needs}
+use native.Mathlib.Omega.{arith}
+use Rattle.lists.specs.Parts.{part}
+use Rattle.dict.specs.Dictionary.{Dict}
+use Rattle.stack.proofs.Pushing.{pushes-most, pushes-room, push-found, push-added, found-below, added-stays}
+use Rattle.stack.proofs.push_rule.Statement.{statement}
+use Rattle.stack.proofs.push_rule.Tie as tie
+
+look-up-requires : tie.Need-look-up-requires
+look-up-requires c κs =
+    let s = c .before .before in
+    let a = s .args in
+    let p = s .pre in
+    let most = pushes-most (a .work .now) (a .c .rules) (a .c .depth) (a .x) (a .y) p in (
+      subst (Dict (part 11520 4608 (a .work .now)) (part 8192 3328 (a .work .now))) (sym (p .holds .count)) (p .holds .rules .dict),
+      most,
+      p .holds .rules .long,
+    )
+
+add-put : tie.Need-add-put
+add-put c = search needs
+
+cast-put : tie.Need-cast-put
+cast-put c =
+    let f = c .before .before in
+    let s = f .before .before .before in
+    let a = s .args in
+    let n = a .c .rules in
+    let d = a .c .depth in
+    omega (arith, pushes-most (a .work .now) n d (a .x) (a .y) (s .pre))
+
+put-requires : tie.Need-put-requires
+put-requires c κs = search needs
+
+add-t14 : tie.Need-add-t14
+add-t14 c = search needs
+
+same-length : tie.Need-same-length
+same-length c = search needs
+
+returns : tie.Need-returns
+returns c =
+    let q = c .before .before in
+    let f = q .before .before .before in
+    let s = f .before .before .before in
+    let a = s .args in
+    let n = a .c .rules in
+    let d = a .c .depth in (
+      λ p. push-found (a .work .now) n d (a .x) (a .y) (f .look-up .result) p (f .look-up .ensures) (q .put .last .0) (q .before .before .if1 .taken) (q .put .ensures),
+      found-below (a .work .now) (q .put .last .0) d (f .look-up .result) (q .put .ensures),
+    )
+
+add-requires : tie.Need-add-requires
+add-requires c κs =
+    let f = c .before .before in
+    let s = f .before .before .before in
+    let a = s .args in
+    let n = a .c .rules in
+    let d = a .c .depth in
+    (pushes-room (a .work .now) n d (a .x) (a .y) (f .look-up .result) (s .pre) (f .look-up .ensures) (c .before .if1 .left), s .pre .holds .rules .long)
+
+add-put-2 : tie.Need-add-put-2
+add-put-2 c = search needs
+
+cast-put-2 : tie.Need-cast-put-2
+cast-put-2 c =
+    let f = c .before .before .before .before .before .before in
+    let s = f .before .before .before in
+    let a = s .args in
+    let n = a .c .rules in
+    let d = a .c .depth in
+    omega (arith, pushes-most (a .work .now) n d (a .x) (a .y) (s .pre))
+
+put-requires-2 : tie.Need-put-requires-2
+put-requires-2 c κs = search needs
+
+add-t21 : tie.Need-add-t21
+add-t21 c =
+    let f = c .before .before .before .before .before .before .before .before .before in
+    let s = f .before .before .before in
+    let a = s .args in
+    let n = a .c .rules in
+    let d = a .c .depth in
+    omega (arith, pushes-most (a .work .now) n d (a .x) (a .y) (s .pre))
+
+add-t23 : tie.Need-add-t23
+add-t23 c = search needs
+
+same-length-2 : tie.Need-same-length-2
+same-length-2 c = search needs
+
+returns-2 : tie.Need-returns-2
+returns-2 c =
+    let q = c .before .before in
+    let b = q .before .before .before .before in
+    let f = b .before .before .before in
+    let s = f .before .before .before in
+    let a = s .args in
+    let n = a .c .rules in
+    let d = a .c .depth in (
+      λ p. push-added (a .work .now) n d (a .x) (a .y) (f .look-up .result) p (f .look-up .ensures) (b .add .last .0) (q .put2 .last .0) (b .before .before .if1 .left) (b .add .ensures) (q .put2 .ensures),
+      added-stays (a .work .now) (b .add .last .0) (q .put2 .last .0) n d (a .x) (a .y) (b .add .ensures) (q .put2 .ensures),
+    )
+
+pub push-rule-spec : {M : Type 1} → statement M
+push-rule-spec =
+    tie.close
+    (tie.spec
+    look-up-requires
+    add-put
+    cast-put
+    put-requires
+    add-t14
+    same-length
+    returns
+    add-requires
+    add-put-2
+    cast-put-2
+    put-requires-2
+    add-t21
+    add-t23
+    same-length-2
+    returns-2)

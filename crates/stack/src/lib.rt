@@ -1,0 +1,93 @@
+// The stack of rules in the work slice: pushing a rule, which is looked up by its two words and added if it is new, and joining the two
+// rules on top.
+use ends::layout::KIND_1;
+use ends::layout::KIND_2;
+use ends::layout::LINKS;
+use ends::layout::STACK;
+use ends::layout::TABLE;
+use ends::layout::TABLE_END;
+use slices::put;
+ghost use mathlib.Core.Path.{_≡_};
+ghost use Prim.Native.Nat.{_≤_, _<_};
+ghost use lib.ListN.{length};
+ghost use Rattle.lists.specs.Newest.{newest, hasWords};
+ghost use Rattle.lists.specs.Parts.{part};
+ghost use Rattle.lyndon.specs.Closings.{push, joins};
+ghost use Rattle.dict.specs.Dictionary.{Dict};
+ghost use Rattle.stack.specs.Areas.{Holds, Pushes, Joins, Below, added};
+
+// How many rules there are, and how many stand on the stack.
+pub struct Counts {
+    pub rules: usize,
+    pub depth: usize,
+}
+
+// Joins the two rules on top, k times.
+pub fn join_all(work: &mut [u32], c: Counts, k: u32) -> Counts
+    requires { ⌜ Joins (now work) (c .rules) (c .depth) k ⌝ }
+    ensures { λ r. ⌜ ((p : Joins (now (work .entry)) (c .rules) (c .depth) k) → Holds (p .o) (joins k (p .s)) (now (work .exit)) (r .rules) (r .depth)) × Below (now (work .entry)) (now (work .exit)) ⌝ }
+{
+    let mut t = c;
+    let mut left = k;
+    while 0 < left {
+        t = join_top(work, t);
+        left -= 1;
+    }
+    t
+}
+
+// Joins the two rules on top.
+fn join_top(work: &mut [u32], c: Counts) -> Counts
+    requires { ⌜ Joins (now work) (c .rules) (c .depth) 1 ⌝ }
+    ensures { λ r. ⌜ ((p : Joins (now (work .entry)) (c .rules) (c .depth) 1) → Holds (p .o) (joins 1 (p .s)) (now (work .exit)) (r .rules) (r .depth)) × Below (now (work .entry)) (now (work .exit)) ⌝ }
+{
+    let d = c.depth;
+    let n = c.rules;
+    let i = work[STACK + d - 2];
+    let j = work[STACK + d - 1];
+    let below = Counts {
+        rules: n,
+        depth: d - 2,
+    };
+    push_rule(work, below, KIND_1 + i, KIND_2 + j)
+}
+
+// Pushes the rule with the words x and y, which is added if it is new.
+pub fn push_rule(work: &mut [u32], c: Counts, x: u32, y: u32) -> Counts
+    requires { ⌜ Pushes (now work) (c .rules) (c .depth) x y ⌝ }
+    ensures { λ r. ⌜ ((p : Pushes (now (work .entry)) (c .rules) (c .depth) x y) → Holds (p .o) (push (p .s .rules) (p .rule) (p .s .stack)) (now (work .exit)) (r .rules) (r .depth)) × Below (now (work .entry)) (now (work .exit)) ⌝ }
+{
+    let n = c.rules;
+    let d = c.depth;
+    let r = look_up(work, n, x, y);
+    if r < n {
+        put(work, STACK + d, r as u32);
+        return Counts {
+            rules: n,
+            depth: d + 1,
+        };
+    }
+    add(work, n, x, y);
+    put(work, STACK + d, n as u32);
+    Counts {
+        rules: n + 1,
+        depth: d + 1,
+    }
+}
+
+// The newest of the n rules with the words x and y, n if there is none.
+fn look_up(work: &[u32], n: usize, x: u32, y: u32) -> usize
+    requires { ⌜ Dict (part 11520 4608 (now work)) (part 8192 3328 (now work)) n × (n ≤ 2304) × (16384 ≤ length (now work)) ⌝ }
+    ensures { λ r. ⌜ r ≡ newest (hasWords (part 11520 4608 (now (work .entry))) x y) n ⌝ }
+{
+    dict::find(&work[TABLE..TABLE_END], &work[LINKS..TABLE], n, x, y)
+}
+
+// Adds rule n with the words x and y.
+fn add(work: &mut [u32], n: usize, x: u32, y: u32)
+    requires { ⌜ (n < 2304) × (16384 ≤ length (now work)) ⌝ }
+    ensures { λ _. ⌜ now (work .exit) ≡ added (now (work .entry)) n x y ⌝ }
+{
+    dict::store(work, TABLE, n, x, y);
+    dict::link(work, LINKS, n, x, y);
+}
