@@ -1,15 +1,18 @@
-// Runs the services on the papers' samples and edges, and prints what they answer; the file `stdout` has what is expected.
-mod building;
-mod checking;
+// Runs the services on the papers' samples and edges, which stand in the file `stdin`, and on generated drives and motifs
+// against a naive scanner, and prints what they answer; the file `stdout` has what is expected.
+mod asking;
+mod campaign;
+mod fields;
+mod generating;
+mod lines;
 mod printing;
-mod reading;
 mod rules;
+mod scanning;
+
+use libc::STDIN_FILENO;
 
 fn main() {
-    building::samples();
-    building::edges();
-    checking::tables();
-    checking::damages();
-    reading::readings();
-    reading::parts();
+    let mut input = [0u8; 8192];
+    let n = io::read_full(STDIN_FILENO, &mut input);
+    lines::run(&input[..n]);
 }

@@ -1,0 +1,67 @@
+-- `put_bytes` copies. The invariant: the bytes passed stand at the front.
+use mathlib.Core.Path.{_≡_, sym, _∙_, refl, ap}
+use mathlib.Core.List.{List}
+use Prim.Native.Nat.{ℕ, _≤_, _-_}
+use native.Mathlib.Omega.{arith}
+use lib.ListN.{length, take, getD, length-set}
+use lib.Seq.{take-length}
+use Rattle.definitions.specs.Words.{placed}
+use Rattle.lists.specs.Lists.{placed-none}
+use Rattle.slices.proofs.Fronts.{taken-more}
+use Rattle.lines.proofs.put_bytes.Statement.{statement}
+use Rattle.lines.proofs.put_bytes.Tie as tie
+
+abbrev Inv-loop : tie.InvT-loop
+Inv-loop bytes out₀ i₀ out i = (i ≤ length bytes) × (length out ≡ length out₀) × (out ≡ placed (take i bytes) out₀)
+
+abbrev μ-loop : tie.MeasureT-loop
+μ-loop bytes out₀ i₀ out i = length bytes - i
+
+loop-holds : tie.Need-loop-holds Inv-loop μ-loop
+loop-holds c = (omega arith, refl, sym (placed-none (c .args .out .now)))
+
+shared-slice-read-out : tie.Need-shared-slice-read-out Inv-loop μ-loop
+shared-slice-read-out c = omega arith
+
+slice-write-out : tie.Need-slice-write-out Inv-loop μ-loop
+slice-write-out c = omega arith
+
+add-i : tie.Need-add-i Inv-loop μ-loop
+add-i c = omega arith
+
+loop-less : tie.Need-loop-less Inv-loop μ-loop
+loop-less c = omega arith
+
+loop-again : tie.Need-loop-again Inv-loop μ-loop
+loop-again c =
+    let at = c .before .before in
+    let a = at .before .args in (
+      omega arith,
+      length-set (at .loop .out) (at .loop .i) (getD (a .bytes .now) (at .loop .i) 0) ∙ at .loop .inv .1,
+      taken-more (a .bytes .now) (a .out .now) (at .loop .out) (at .loop .i) (omega arith) (omega arith) (at .loop .inv .2),
+    )
+
+same-length : tie.Need-same-length Inv-loop μ-loop
+same-length c = c .before .loop .inv .1
+
+returns : tie.Need-returns Inv-loop μ-loop
+returns c =
+    let at = c .before in
+    let a = at .before .args in
+    let e : at .loop .i ≡ length (a .bytes .now) = omega arith in
+    (e, at .loop .inv .2 ∙ ap (λ (n : ℕ). placed (take n (a .bytes .now)) (a .out .now)) e ∙ ap (λ (l : List ℕ). placed l (a .out .now)) (take-length (a .bytes .now)))
+
+pub put-bytes-spec : {M : Type 1} → statement M
+put-bytes-spec =
+    tie.close
+    (tie.spec
+    Inv-loop
+    μ-loop
+    loop-holds
+    shared-slice-read-out
+    slice-write-out
+    add-i
+    loop-less
+    loop-again
+    same-length
+    returns)

@@ -1,0 +1,66 @@
+-- `put_refusal` writes the number of a refusal, and nothing where there is none.
+use mathlib.Core.Path.{_≡_, sym, _∙_, ap}
+use mathlib.Core.List.{List}
+use Prim.Native.Nat.{ℕ}
+use native.Mathlib.Omega.{arith}
+use lib.ListN.{length}
+use borrow.Author.Needs.{needs}
+use Rattle.definitions.specs.Words.{placed}
+use Rattle.definitions.specs.Programs.{named, refusedName}
+use Rattle.lists.specs.Lists.{placed-none}
+use Rattle.lines.specs.Lines.{refusal, refusalNumber}
+use Rattle.lines.proofs.put_refusal.Statement.{statement}
+use Rattle.lines.proofs.put_refusal.Tie as tie
+
+enum-known-answer : tie.Need-enum-known-answer
+enum-known-answer c = search needs
+
+enum-told : tie.Need-enum-told
+enum-told c = search needs
+
+returns : tie.Need-returns
+unfolding refusal
+returns c =
+    let a = c .before .before .before .args in
+    let none = ap refusal (c .enum-told .given .1) in
+    (sym (ap length none), sym (ap (λ (l : List ℕ). placed l (a .out .now)) none ∙ placed-none (a .out .now)))
+
+slice-aggregate-put-named : tie.Need-slice-aggregate-put-named
+slice-aggregate-put-named c = search needs
+
+wide-requires : tie.Need-wide-requires
+wide-requires c κs = search needs
+
+put-named-requires : tie.Need-put-named-requires
+unfolding refusalNumber
+put-named-requires c κs =
+    let w = c .before in
+    let k = w .before .before in
+    let s = k .before .before .before .before in
+    (omega (arith, w .wide .ensures, ap refusalNumber (k .before .answer .given .1), s .pre .0), omega arith)
+
+same-length : tie.Need-same-length
+same-length c = search needs
+
+returns-2 : tie.Need-returns-2
+unfolding refusal
+returns-2 c =
+    let p = c .before .before in
+    let w = p .before .before in
+    let k = w .before .before in
+    let s = k .before .before .before .before in
+    let line : refusal (s .args .answer) ≡ named refusedName (w .wide .result) = ap refusal (k .before .answer .given .1) ∙ ap (λ (n : ℕ). named refusedName n) (sym (w .wide .ensures)) in
+    (p .put-named .ensures .0 ∙ ap length (sym line), p .put-named .ensures .1 ∙ ap (λ (l : List ℕ). placed l (s .args .out .now)) (sym line))
+
+pub put-refusal-spec : {M : Type 1} → statement M
+put-refusal-spec =
+    tie.close
+    (tie.spec
+    enum-known-answer
+    enum-told
+    returns
+    slice-aggregate-put-named
+    wide-requires
+    put-named-requires
+    same-length
+    returns-2)

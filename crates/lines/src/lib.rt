@@ -1,0 +1,104 @@
+// Lines of text gathered in a lent slice: each function writes at the front of `out`, leaves the rest and answers how many bytes it wrote, so
+// that the caller lends on the rest. A number is below 10,000 and takes at most 4 digits.
+use definitions::Answer;
+use slices::wide;
+ghost use mathlib.Core.Path.{_≡_};
+ghost use Prim.Native.Nat.{_+_, _*_, _≤_, _<_};
+ghost use lib.ListN.{length};
+ghost use Rattle.definitions.specs.Words.{placed};
+ghost use Rattle.definitions.specs.Programs.{digits, digitCount, decimal, line, named, decimalLines};
+ghost use Rattle.lines.specs.Lines.{Small, refusal, refusalNumber};
+
+// Numbers, each on a line.
+pub fn put_decimal_lines(numbers: &[u32], out: &mut [u8]) -> usize
+    requires { ⌜ Small (now numbers) × (5 * length (now numbers) ≤ length (now out)) ⌝ }
+    ensures { λ n. ⌜ n ≡ length (decimalLines (now (numbers .entry))) ⌝ }
+    ensures { λ _. ⌜ now (out .exit) ≡ placed (decimalLines (now (numbers .entry))) (now (out .entry)) ⌝ }
+{
+    let mut i = 0;
+    let mut n = 0;
+    while i < numbers.len() {
+        n += put_decimal_line(wide(numbers[i]), &mut out[n..]);
+        i += 1;
+    }
+    n
+}
+
+// The line of a refusal; nothing where the answer is none.
+pub fn put_refusal(answer: Answer, out: &mut [u8]) -> usize
+    requires { ⌜ (refusalNumber answer < 10000) × (13 ≤ length (now out)) ⌝ }
+    ensures { λ n. ⌜ n ≡ length (refusal answer) ⌝ }
+    ensures { λ _. ⌜ now (out .exit) ≡ placed (refusal answer) (now (out .entry)) ⌝ }
+{
+    let Answer::Refused(number, _) = answer else {
+        return 0;
+    };
+    put_named(b"refused ", wide(number), out)
+}
+
+// A line that begins with a name and then has a number.
+pub fn put_named(name: &[u8], number: usize, out: &mut [u8]) -> usize
+    requires { ⌜ (number < 10000) × (length (now name) + 5 ≤ length (now out)) ⌝ }
+    ensures { λ n. ⌜ n ≡ length (named (now (name .entry)) number) ⌝ }
+    ensures { λ _. ⌜ now (out .exit) ≡ placed (named (now (name .entry)) number) (now (out .entry)) ⌝ }
+{
+    let n = put_bytes(name, out);
+    let m = put_decimal_line(number, &mut out[n..]);
+    n + m
+}
+
+// Bytes as they are.
+pub fn put_bytes(bytes: &[u8], out: &mut [u8]) -> usize
+    requires { ⌜ length (now bytes) ≤ length (now out) ⌝ }
+    ensures { λ n. ⌜ n ≡ length (now (bytes .entry)) ⌝ }
+    ensures { λ _. ⌜ now (out .exit) ≡ placed (now (bytes .entry)) (now (out .entry)) ⌝ }
+{
+    let mut i = 0;
+    while i < bytes.len() {
+        out[i] = bytes[i];
+        i += 1;
+    }
+    i
+}
+
+// A number on a line.
+pub fn put_decimal_line(number: usize, out: &mut [u8]) -> usize
+    requires { ⌜ (number < 10000) × (5 ≤ length (now out)) ⌝ }
+    ensures { λ n. ⌜ n ≡ length (line (decimal number)) ⌝ }
+    ensures { λ _. ⌜ now (out .exit) ≡ placed (line (decimal number)) (now (out .entry)) ⌝ }
+{
+    let n = digit_count(number);
+    put_digits(number, n, out);
+    out[n] = 10;
+    n + 1
+}
+
+// How many digits a number has.
+fn digit_count(number: usize) -> usize
+    ensures { λ n. ⌜ n ≡ digitCount number ⌝ }
+{
+    if number < 10 {
+        return 1;
+    }
+    if number < 100 {
+        return 2;
+    }
+    if number < 1000 {
+        return 3;
+    }
+    4
+}
+
+// The last digits of a number, as many as `count` says: the last is written first.
+fn put_digits(number: usize, count: usize, out: &mut [u8])
+    requires { ⌜ count ≤ length (now out) ⌝ }
+    ensures { λ _. ⌜ now (out .exit) ≡ placed (digits count number) (now (out .entry)) ⌝ }
+{
+    let mut rest = number;
+    let mut i = count;
+    while 0 < i {
+        i -= 1;
+        out[i] = 48 + (rest % 10) as u8;
+        rest = rest / 10;
+    }
+}

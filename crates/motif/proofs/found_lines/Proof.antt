@@ -1,0 +1,68 @@
+-- `found_lines` writes the number of positions, and in the rest of the slice the positions.
+use native.Mathlib.Omega.{arith}
+use lib.ListN.{length, length-take, length-drop}
+use borrow.Author.Needs.{needs}
+use Rattle.definitions.specs.Programs.{named, decimalLines, foundName, foundLines}
+use Rattle.lines.proofs.Lines.{named-most, lines-most, both-stored}
+use Rattle.motif.proofs.found_lines.Statement.{statement}
+use Rattle.motif.proofs.found_lines.Tie as tie
+
+slice-aggregate-put-named : tie.Need-slice-aggregate-put-named
+slice-aggregate-put-named c = search needs
+
+put-named-requires : tie.Need-put-named-requires
+put-named-requires c κs = search needs
+
+sub-put-decimal-lines : tie.Need-sub-put-decimal-lines
+sub-put-decimal-lines c =
+    let p = c .before .before in
+    let s = p .before .before .before .before .before in
+    omega (arith, p .put-named .ensures .0, p .put-named .kept .1 .1 .0, named-most foundName (length (s .args .positions .now)))
+
+part-put-decimal-lines-start : tie.Need-part-put-decimal-lines-start
+part-put-decimal-lines-start c =
+    let p = c .before .before in
+    let s = p .before .before .before .before .before in
+    omega (arith, p .put-named .ensures .0, p .put-named .kept .1 .1 .0, named-most foundName (length (s .args .positions .now)))
+
+part-put-decimal-lines-end : tie.Need-part-put-decimal-lines-end
+part-put-decimal-lines-end c = search needs
+
+put-decimal-lines-requires : tie.Need-put-decimal-lines-requires
+put-decimal-lines-requires c κs =
+    let p = c .before .before .before in
+    let s = p .before .before .before .before .before in
+    (s .pre .0, simp (length-take, length-drop) (omega (arith, p .put-named .ensures .0, p .put-named .kept .1 .1 .0, named-most foundName (length (s .args .positions .now)))))
+
+add-result : tie.Need-add-result
+add-result c =
+    let l = c .before .before in
+    let p = l .before .before .before .before in
+    let s = p .before .before .before .before .before in
+    omega (arith, p .put-named .ensures .0, l .put-decimal-lines .ensures .0, named-most foundName (length (s .args .positions .now)), lines-most (s .args .positions .now))
+
+same-length : tie.Need-same-length
+same-length c = search needs
+
+returns : tie.Need-returns
+unfolding foundLines
+returns c =
+    let l = c .before .before in
+    let p = l .before .before .before .before in
+    let s = p .before .before .before .before .before in
+    let t = s .args .positions .now in
+    both-stored (named foundName (length t)) (decimalLines t) (s .args .out .now) (p .put-named .last .1 .1 .0) (l .put-decimal-lines .last .1 .0) (p .put-named .result) (l .put-decimal-lines .result) (omega (arith, named-most foundName (length t), lines-most t)) (p .put-named .ensures .0) (p .put-named .ensures .1) (l .put-decimal-lines .ensures .0) (l .put-decimal-lines .ensures .1)
+
+pub found-lines-spec : {M : Type 1} → statement M
+found-lines-spec =
+    tie.close
+    (tie.spec
+    slice-aggregate-put-named
+    put-named-requires
+    sub-put-decimal-lines
+    part-put-decimal-lines-start
+    part-put-decimal-lines-end
+    put-decimal-lines-requires
+    add-result
+    same-length
+    returns)

@@ -1,0 +1,68 @@
+-- `rules_and_found` writes the number of rules, and in the rest of the slice what was found.
+use native.Mathlib.Omega.{arith}
+use lib.ListN.{length-take, length-drop}
+use borrow.Author.Needs.{needs}
+use Rattle.definitions.specs.Programs.{named, rulesName, foundLines}
+use Rattle.lines.proofs.Lines.{named-most, both-stored}
+use Rattle.motif.proofs.Printing.{found-most}
+use Rattle.motif.proofs.rules_and_found.Statement.{statement}
+use Rattle.motif.proofs.rules_and_found.Tie as tie
+
+slice-aggregate-put-named : tie.Need-slice-aggregate-put-named
+slice-aggregate-put-named c = search needs
+
+put-named-requires : tie.Need-put-named-requires
+put-named-requires c κs = search needs
+
+sub-found-lines : tie.Need-sub-found-lines
+sub-found-lines c =
+    let p = c .before .before in
+    let s = p .before .before .before .before .before in
+    omega (arith, p .put-named .ensures .0, p .put-named .kept .1 .1 .0, named-most rulesName (s .args .rules))
+
+part-found-lines-start : tie.Need-part-found-lines-start
+part-found-lines-start c =
+    let p = c .before .before in
+    let s = p .before .before .before .before .before in
+    omega (arith, p .put-named .ensures .0, p .put-named .kept .1 .1 .0, named-most rulesName (s .args .rules))
+
+part-found-lines-end : tie.Need-part-found-lines-end
+part-found-lines-end c = search needs
+
+found-lines-requires : tie.Need-found-lines-requires
+found-lines-requires c κs =
+    let p = c .before .before .before in
+    let s = p .before .before .before .before .before in
+    (s .pre .1, s .pre .2, simp (length-take, length-drop) (omega (arith, p .put-named .ensures .0, p .put-named .kept .1 .1 .0, named-most rulesName (s .args .rules))))
+
+add-result : tie.Need-add-result
+add-result c =
+    let l = c .before .before in
+    let p = l .before .before .before .before in
+    let s = p .before .before .before .before .before in
+    omega (arith, p .put-named .ensures .0, l .found-lines .ensures .0, named-most rulesName (s .args .rules), found-most (s .args .positions .now))
+
+same-length : tie.Need-same-length
+same-length c = search needs
+
+returns : tie.Need-returns
+returns c =
+    let l = c .before .before in
+    let p = l .before .before .before .before in
+    let s = p .before .before .before .before .before in
+    let t = s .args .positions .now in
+    both-stored (named rulesName (s .args .rules)) (foundLines t) (s .args .out .now) (p .put-named .last .1 .1 .0) (l .found-lines .last .1 .0) (p .put-named .result) (l .found-lines .result) (omega (arith, named-most rulesName (s .args .rules), found-most t)) (p .put-named .ensures .0) (p .put-named .ensures .1) (l .found-lines .ensures .0) (l .found-lines .ensures .1)
+
+pub rules-and-found-spec : {M : Type 1} → statement M
+rules-and-found-spec =
+    tie.close
+    (tie.spec
+    slice-aggregate-put-named
+    put-named-requires
+    sub-found-lines
+    part-found-lines-start
+    part-found-lines-end
+    found-lines-requires
+    add-result
+    same-length
+    returns)

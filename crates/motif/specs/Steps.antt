@@ -1,0 +1,32 @@
+-- The two steps of the program `motif`, as services: building the drive's table, and locating the motif. What either refuses is printed.
+use mathlib.Core.List.{List, [], _∷_, _++_}
+use mathlib.Core.Path.{_≡_}
+use Prim.Native.Nat.{ℕ, _/_, _≤_}
+use lib.ListN.{length}
+use Rattle.definitions.specs.declared.Order.{Order}
+use Rattle.definitions.specs.declared.Order.the-variants.{Unsigned}
+use Rattle.definitions.specs.Table.{tableOf}
+use Rattle.definitions.specs.Occurrences.{occurrences}
+use Rattle.definitions.specs.Services.{Service, done, textTooLong, patternChecks}
+use Rattle.definitions.specs.Programs.{named, printed, motifOf, driveOf, inputTooLong, rulesName, foundLines}
+
+unfoldable pub driveStep : Order → List ℕ → Service
+driveStep o input =
+    let t = tableOf o (driveOf input) 0 in
+    record { checks = inputTooLong input ∷ textTooLong (driveOf input) ∷ []; success = done (length t) 0; written = t }
+
+unfoldable pub motifStep : List ℕ → Service
+motifStep input =
+    let finds = occurrences (motifOf input) (driveOf input) in
+    record { checks = patternChecks (motifOf input); success = done (length finds) 0; written = finds }
+
+-- what is printed once the table is built
+unfoldable pub searchOutput : Order → List ℕ → List ℕ
+searchOutput o input =
+    printed (patternChecks (motifOf input))
+    (named rulesName (length (tableOf o (driveOf input) 0) / 2) ++ foundLines (occurrences (motifOf input) (driveOf input)))
+
+-- the table of the input's drive is built
+pub record Built (input t : List ℕ) : Type 0 where
+  pub short : length (driveOf input) ≤ 2047
+  pub table : t ≡ tableOf Unsigned (driveOf input) 0

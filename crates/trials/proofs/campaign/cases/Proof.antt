@@ -1,0 +1,48 @@
+-- `cases` keeps the slice's length.
+use mathlib.Core.Path.{_≡_, refl}
+use Prim.Native.Nat.{_-_}
+use native.Mathlib.Omega.{arith}
+use lib.ListN.{length}
+use Rattle.trials.proofs.campaign.cases.Statement.{statement}
+use Rattle.trials.proofs.campaign.cases.Tie as tie
+
+abbrev Inv-loop : tie.InvT-loop
+Inv-loop n tally₀ seed₀ i₀ tally seed i = length tally ≡ length tally₀
+
+abbrev μ-loop : tie.MeasureT-loop
+μ-loop n tally₀ seed₀ i₀ tally seed i = n - i
+
+loop-holds : tie.Need-loop-holds Inv-loop μ-loop
+loop-holds c = refl
+
+case-requires : tie.Need-case-requires Inv-loop μ-loop
+case-requires c κs = tt
+
+add-i : tie.Need-add-i Inv-loop μ-loop
+add-i c = omega arith
+
+loop-less : tie.Need-loop-less Inv-loop μ-loop
+loop-less c = omega arith
+
+loop-again : tie.Need-loop-again Inv-loop μ-loop
+loop-again c = omega arith
+
+same-length : tie.Need-same-length Inv-loop μ-loop
+same-length c = omega arith
+
+returns : tie.Need-returns Inv-loop μ-loop
+returns c = tt
+
+pub cases-spec : {M : Type 1} → statement M
+cases-spec =
+    tie.close
+    (tie.spec
+    Inv-loop
+    μ-loop
+    loop-holds
+    case-requires
+    add-i
+    loop-less
+    loop-again
+    same-length
+    returns)
