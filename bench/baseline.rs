@@ -19,7 +19,7 @@ pub fn refused(number: u32, place: usize) -> Answer {
 }
 
 #[inline(always)]
-pub fn at(s: &[u32], i: usize) -> u32 {
+pub fn at<T: Copy>(s: &[T], i: usize) -> T {
     unsafe { *s.get_unchecked(i) }
 }
 

@@ -1,10 +1,13 @@
-//! One call of a service under callgrind: `bench SIDE SERVICE FAMILY SAMPLES`. SIDE is `library` or `rust`; SERVICE is `build`, `check`,
-//! `read`, `extract` (the whole text), or `doubling`: the check of a table of SAMPLES rules that double. It prints the answer and a checksum of
-//! each lent slice afterwards, which `bench/run` compares between the sides. The lent slices hold other values before the call.
+//! One call of a service under callgrind: `bench SIDE SERVICE FAMILY SAMPLES [PATTERN]`. SIDE is `library` or `rust`; SERVICE is `build`,
+//! `check`, `read`, `copied` (reading, beside a Rust that copies the text), `extract` (the whole text), `count`, `locate`, `cuts` (the live cuts of
+//! the pattern), or `doubling`: the check of a table of SAMPLES rules that double. The pattern is the PATTERN samples in the middle of the text. It
+//! prints the answer and a checksum of each lent slice afterwards, which `bench/run` compares between the sides. The lent slices hold other
+//! values before the call.
 
 mod baseline;
 #[path = "../tests/library.rs"]
 mod library;
+mod search;
 mod tables;
 mod texts;
 
@@ -12,6 +15,14 @@ use baseline::Answer;
 use library::*;
 
 const CHAIR: u16 = 40;
+
+/// What a call is given.
+struct Given {
+    service: String,
+    text: Vec<u8>,
+    table: Vec<u32>,
+    pattern: Vec<u8>,
+}
 
 /// The slices lent to a call: work, and the result as words or as bytes.
 struct Lent {
@@ -26,46 +37,72 @@ fn lent() -> Lent {
 
 #[no_mangle]
 #[inline(never)]
-fn measured_library(service: &str, text: &[u8], table: &[u32], lent: &mut Lent) -> Answer {
-    let (t, m) = (table.as_ptr(), table.len());
-    let (w, n) = (lent.work.as_mut_ptr(), lent.work.len());
-    let (words, bytes) = (lent.words.as_mut_ptr(), lent.bytes.as_mut_ptr());
-    let r = unsafe {
-        match service {
-            "build" => sirbolta_build(text.as_ptr(), text.len(), CHAIR, w, n, words, lent.words.len()),
-            "check" | "doubling" => sirbolta_check(t, m, w, n),
-            "read" => sirbolta_read(t, m, w, n, bytes, lent.bytes.len()),
-            "extract" => sirbolta_extract(t, m, 0, text.len(), w, n, bytes, lent.bytes.len()),
-            _ => panic!("no service {service}"),
+fn measured_library(given: &Given, lent: &mut Lent) -> Answer {
+    let (text, n) = (given.text.as_ptr(), given.text.len());
+    let (table, m) = (given.table.as_ptr(), given.table.len());
+    let (pattern, p) = (given.pattern.as_ptr(), given.pattern.len());
+    let (work, w) = (lent.work.as_mut_ptr(), lent.work.len());
+    let (words, k) = (lent.words.as_mut_ptr(), lent.words.len());
+    let (bytes, b) = (lent.bytes.as_mut_ptr(), lent.bytes.len());
+    unsafe {
+        match given.service.as_str() {
+            "build" => replied(sirbolta_build(text, n, CHAIR, work, w, words, k)),
+            "check" | "doubling" => replied(sirbolta_check(table, m, work, w)),
+            "read" | "copied" => replied(sirbolta_read(table, m, work, w, bytes, b)),
+            "extract" => replied(sirbolta_extract(table, m, 0, n, work, w, bytes, b)),
+            "count" => found(sirbolta_count(table, m, pattern, p, work, w)),
+            "locate" => found(sirbolta_locate(table, m, pattern, p, work, w, words, k)),
+            "cuts" => replied(sirbolta_live_cuts(pattern, p, words, k)),
+            service => panic!("no service {service}"),
         }
-    };
+    }
+}
+
+fn replied(r: Reply) -> Answer {
+    (r.number, r.place, r.count, r.chair)
+}
+
+fn found(r: SearchReply) -> Answer {
     (r.number, r.place, r.count, r.chair)
 }
 
 #[no_mangle]
 #[inline(never)]
-fn measured_rust(service: &str, text: &[u8], table: &[u32], lent: &mut Lent) -> Answer {
-    match service {
-        "build" => baseline::build(text, CHAIR, &mut lent.work, &mut lent.words),
-        "check" | "doubling" => tables::check(table, &mut lent.work),
-        "read" => tables::read(table, &mut lent.work, &mut lent.bytes),
-        "extract" => tables::extract(table, 0, text.len(), &mut lent.work, &mut lent.bytes),
-        _ => panic!("no service {service}"),
+fn measured_rust(given: &Given, lent: &mut Lent) -> Answer {
+    let Given { service, text, table, pattern } = given;
+    let Lent { work, words, bytes } = lent;
+    match service.as_str() {
+        "build" => baseline::build(text, CHAIR, work, words),
+        "check" | "doubling" => tables::check(table, work),
+        "read" => tables::read(table, work, bytes),
+        "copied" => tables::copied(table, work, bytes),
+        "extract" => tables::extract(table, 0, text.len(), work, bytes),
+        "count" => search::count(table, pattern, work),
+        "locate" => search::locate(table, pattern, work, words),
+        "cuts" => search::live_cuts(pattern, words),
+        service => panic!("no service {service}"),
     }
 }
 
 fn main() {
     let args: Vec<String> = std::env::args().collect();
-    let service = args[2].as_str();
-    let family: usize = args[3].parse().unwrap();
-    let size: usize = args[4].parse().unwrap();
+    let number = |i: usize| args.get(i).map_or(0, |s| s.parse::<usize>().unwrap());
+    let (service, family, size) = (args[2].clone(), number(3), number(4));
     let text = texts::text(family, size.min(2047));
     let table = if service == "doubling" { doubling(size as u32) } else { table_of(&text) };
+    let pattern = middle(&text, number(5));
+    let given = Given { service, text, table, pattern };
     let mut lent = lent();
     let measured = if args[1] == "library" { measured_library } else { measured_rust };
-    let answer = measured(service, &text, &table, &mut lent);
+    let answer = measured(&given, &mut lent);
     let (work, words, bytes) = (checksum(&lent.work), checksum(&lent.words), checksum(&lent.bytes));
-    println!("{service} {} {answer:?} {work} {words} {bytes}", texts::FAMILIES[family]);
+    println!("{} {} {answer:?} {work} {words} {bytes}", given.service, texts::FAMILIES[family]);
+}
+
+/// The m samples in the middle of a text.
+fn middle(text: &[u8], m: usize) -> Vec<u8> {
+    let start = (text.len() - m) / 2;
+    text[start..start + m].to_vec()
 }
 
 fn table_of(text: &[u8]) -> Vec<u32> {

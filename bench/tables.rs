@@ -3,7 +3,7 @@
 use crate::baseline::*;
 
 /// What a word holds below its kind.
-fn value(word: u32) -> u32 {
+pub fn value(word: u32) -> u32 {
     word % (1 << 30)
 }
 
@@ -102,7 +102,7 @@ fn load(table: &[u32], work: &mut [u32]) -> bool {
 }
 
 /// Checks and loads a table; what `deliver` answers then.
-fn with_loaded(table: &[u32], work: &mut [u32], deliver: impl FnOnce(&[u32]) -> Answer) -> Answer {
+pub fn with_loaded(table: &[u32], work: &mut [u32], deliver: impl FnOnce(&mut [u32]) -> Answer) -> Answer {
     if work.len() < WORK {
         return refused(4, 0);
     }
@@ -158,6 +158,19 @@ pub fn read(table: &[u32], work: &mut [u32], result: &mut [u8]) -> Answer {
     })
 }
 
+/// The same by copying the ranks that the root spells.
+#[inline(never)]
+pub fn copied(table: &[u32], work: &mut [u32], result: &mut [u8]) -> Answer {
+    with_loaded(table, work, |work| {
+        let n = text_length(work);
+        if result.len() < n {
+            return refused(9, n);
+        }
+        copy(work, 0, n, result);
+        done(n, chair_of(table))
+    })
+}
+
 /// The part of a table's text that begins at `start` and has `count` samples.
 #[inline(never)]
 pub fn extract(table: &[u32], start: usize, count: usize, work: &mut [u32], result: &mut [u8]) -> Answer {
@@ -169,11 +182,16 @@ pub fn extract(table: &[u32], start: usize, count: usize, work: &mut [u32], resu
         if result.len() < count {
             return refused(9, count);
         }
-        let mut i = 0;
-        while i < count {
-            put(result, i, (at(work, 1 + start + i) - 1) as u8);
-            i += 1;
-        }
+        copy(work, start, count, result);
         done(count, 0)
     })
+}
+
+/// The samples from `start` on, so many of them, from the ranks at the front.
+fn copy(work: &[u32], start: usize, count: usize, result: &mut [u8]) {
+    let mut i = 0;
+    while i < count {
+        put(result, i, (at(work, 1 + start + i) - 1) as u8);
+        i += 1;
+    }
 }

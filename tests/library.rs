@@ -9,6 +9,15 @@ pub struct Reply {
     pub count: u64,
 }
 
+/// What counting and locating reply with.
+#[repr(C)]
+pub struct SearchReply {
+    pub number: u32,
+    pub chair: u32,
+    pub place: u64,
+    pub count: u64,
+}
+
 extern "C" {
     pub fn sirbolta_build(
         text: *const u8,
@@ -38,4 +47,23 @@ extern "C" {
         result: *mut u8,
         result_len: usize,
     ) -> Reply;
+    pub fn sirbolta_count(
+        table: *const u32,
+        table_len: usize,
+        pattern: *const u8,
+        pattern_len: usize,
+        work: *mut u32,
+        work_len: usize,
+    ) -> SearchReply;
+    pub fn sirbolta_locate(
+        table: *const u32,
+        table_len: usize,
+        pattern: *const u8,
+        pattern_len: usize,
+        work: *mut u32,
+        work_len: usize,
+        result: *mut u32,
+        result_len: usize,
+    ) -> SearchReply;
+    pub fn sirbolta_live_cuts(pattern: *const u8, pattern_len: usize, result: *mut u32, result_len: usize) -> Reply;
 }

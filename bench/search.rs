@@ -1,0 +1,252 @@
+//! The library's search in Rust: live cuts of a pattern, lengths and places of rules, counting, listing.
+
+use crate::baseline::*;
+use crate::tables::{value, with_loaded};
+
+// The areas of the work slice during a search; ranks and table stay where they are.
+const LENGTHS: usize = 2048;
+const PLACES: usize = 4352;
+const FOUND: usize = 6656;
+const LIVE: usize = 8960;
+const LIVE_END: usize = 11008;
+
+fn rank_of(byte: u8) -> u32 {
+    byte as u32 + 1
+}
+
+/// The run that starts at a place, as far as it goes: the place a copy before its end, and its end.
+fn extend(pattern: &[u8], start: usize) -> (usize, usize) {
+    let (mut back, mut end) = (start, start + 1);
+    while end < pattern.len() {
+        let (a, b) = (rank_of(at(pattern, back)), rank_of(at(pattern, end)));
+        if a == b {
+            back += 1;
+        } else {
+            if b < a {
+                return (back, end);
+            }
+            back = start;
+        }
+        end += 1;
+    }
+    (back, end)
+}
+
+/// Hands each live cut to `live`, rising. A run is left copy by copy; the starts of its copies are live where it reaches the end.
+#[inline(always)]
+fn for_live_cuts(pattern: &[u8], mut live: impl FnMut(usize)) {
+    let (mut start, mut back, mut end) = (1, 0, 0);
+    while start < pattern.len() {
+        if start <= back {
+            if end == pattern.len() {
+                live(start);
+            }
+            start += end - back;
+        } else {
+            (back, end) = extend(pattern, start);
+        }
+    }
+}
+
+fn count_cuts(pattern: &[u8]) -> usize {
+    let mut n = 0;
+    for_live_cuts(pattern, |_| n += 1);
+    n
+}
+
+fn write_cuts(pattern: &[u8], result: &mut [u32]) {
+    let mut n = 0;
+    for_live_cuts(pattern, |cut| {
+        put(result, n, cut as u32);
+        n += 1;
+    });
+}
+
+/// A flag for each cut, that of cut 0 first: 1 if the cut is live, else 0.
+fn flag_cuts(pattern: &[u8], flags: &mut [u32]) {
+    clear(flags, 0, pattern.len());
+    for_live_cuts(pattern, |cut| put(flags, cut, 1));
+}
+
+/// The refusal of a pattern, if it has one.
+fn pattern_refused(pattern: &[u8]) -> Option<Answer> {
+    if pattern.len() == 0 {
+        return Some(refused(2, 0));
+    }
+    if 2047 < pattern.len() {
+        return Some(refused(3, 0));
+    }
+    None
+}
+
+/// The live cuts of a pattern.
+#[inline(never)]
+pub fn live_cuts(pattern: &[u8], result: &mut [u32]) -> Answer {
+    if let Some(a) = pattern_refused(pattern) {
+        return a;
+    }
+    let n = count_cuts(pattern);
+    if result.len() < n {
+        return refused(9, n);
+    }
+    write_cuts(pattern, result);
+    done(n, 0)
+}
+
+/// What stands in an area of a rule, as an index.
+fn word(work: &[u32], area: usize, r: usize) -> usize {
+    at(work, area + r) as usize
+}
+
+/// The two halves of a pair rule; none of a symbol's.
+fn halves(work: &[u32], r: usize) -> Option<(usize, usize)> {
+    let x = at(work, TABLE + 2 * r);
+    if x < 1 << 30 {
+        return None;
+    }
+    let y = at(work, TABLE + 2 * r + 1);
+    Some((value(x) as usize, value(y) as usize))
+}
+
+/// The length of each rule's string, and a place of the marked text at which it stands.
+fn place_rules(work: &mut [u32], rules: usize) {
+    let mut r = 0;
+    while r < rules {
+        let n = match halves(work, r) {
+            None => 1,
+            Some((u, v)) => at(work, LENGTHS + u) + at(work, LENGTHS + v),
+        };
+        put(work, LENGTHS + r, n);
+        r += 1;
+    }
+    put(work, PLACES + (rules - 1), 0);
+    while 0 < r {
+        r -= 1;
+        if let Some((u, v)) = halves(work, r) {
+            let start = at(work, PLACES + r);
+            let behind = start + at(work, LENGTHS + u);
+            put(work, PLACES + u, start);
+            put(work, PLACES + v, behind);
+        }
+    }
+}
+
+/// Whether ranks are those of the pattern.
+fn matches(pattern: &[u8], ranks: &[u32]) -> bool {
+    let mut i = 0;
+    while i < pattern.len() {
+        if rank_of(at(pattern, i)) != at(ranks, i) {
+            return false;
+        }
+        i += 1;
+    }
+    true
+}
+
+/// Whether cut c is live and the pattern stands at a place.
+fn is_cut(pattern: &[u8], work: &[u32], c: usize, place: usize) -> bool {
+    if at(work, LIVE + c) == 0 {
+        return false;
+    }
+    matches(pattern, part(work, place, place + pattern.len()))
+}
+
+/// The live cut at which the pattern straddles the join of two strings, the first of which stands at a place; 0 if it does not.
+fn cut_at_join(pattern: &[u8], work: &[u32], place: usize, left: usize, right: usize) -> usize {
+    let m = pattern.len();
+    let join = place + left;
+    let end = if m <= left { m } else { left + 1 };
+    let mut c = if right < m { m - right } else { 1 };
+    while c < end {
+        if is_cut(pattern, work, c, join - c) {
+            return c;
+        }
+        c += 1;
+    }
+    0
+}
+
+/// The occurrences in both halves and at the join, times 4096, and the cut there.
+fn found(both: usize, cut: usize) -> u32 {
+    if cut == 0 {
+        return (both * 4096) as u32;
+    }
+    ((both + 1) * 4096 + cut) as u32
+}
+
+/// The occurrences in rule r times 4096 and the cut at its join.
+fn found_in(pattern: &[u8], work: &[u32], r: usize) -> u32 {
+    let Some((u, v)) = halves(work, r) else {
+        let found = pattern.len() == 1 && at(work, word(work, PLACES, r)) == rank_of(at(pattern, 0));
+        return if found { 4096 } else { 0 };
+    };
+    let (left, right) = (word(work, LENGTHS, u), word(work, LENGTHS, v));
+    let cut = cut_at_join(pattern, work, word(work, PLACES, r), left, right);
+    found(word(work, FOUND, u) / 4096 + word(work, FOUND, v) / 4096, cut)
+}
+
+fn count_rules(pattern: &[u8], work: &mut [u32], rules: usize) {
+    let mut r = 0;
+    while r < rules {
+        let x = found_in(pattern, work, r);
+        put(work, FOUND + r, x);
+        r += 1;
+    }
+}
+
+/// Counts the occurrences of a pattern in the text that is loaded.
+fn count_loaded(pattern: &[u8], work: &mut [u32], rules: usize) -> usize {
+    place_rules(work, rules);
+    flag_cuts(pattern, unsafe { work.get_unchecked_mut(LIVE..LIVE_END) });
+    count_rules(pattern, work, rules);
+    word(work, FOUND, rules - 1) / 4096
+}
+
+/// The number of occurrences of a pattern in the text of a table.
+#[inline(never)]
+pub fn count(table: &[u32], pattern: &[u8], work: &mut [u32]) -> Answer {
+    if let Some(a) = pattern_refused(pattern) {
+        return a;
+    }
+    with_loaded(table, work, |work| done(count_loaded(pattern, work, table.len() / 2), 0))
+}
+
+/// Writes the occurrence at a place of the marked text.
+fn list_one(result: &mut [u32], place: usize) -> usize {
+    put(result, 0, if place == 0 { 0 } else { (place - 1) as u32 });
+    1
+}
+
+/// Writes the occurrences in rule r, whose string stands at a place: left half, join, right half. Answers how many there are.
+fn list_rule(work: &[u32], r: usize, place: usize, result: &mut [u32]) -> usize {
+    if word(work, FOUND, r) / 4096 == 0 {
+        return 0;
+    }
+    let Some((u, v)) = halves(work, r) else {
+        return list_one(result, place);
+    };
+    let mut n = list_rule(work, u, place, result);
+    let join = place + word(work, LENGTHS, u);
+    let cut = word(work, FOUND, r) % 4096;
+    if cut != 0 {
+        n += list_one(unsafe { result.get_unchecked_mut(n..) }, join - cut);
+    }
+    n + list_rule(work, v, join, unsafe { result.get_unchecked_mut(n..) })
+}
+
+/// The occurrences of a pattern in the text of a table.
+#[inline(never)]
+pub fn locate(table: &[u32], pattern: &[u8], work: &mut [u32], result: &mut [u32]) -> Answer {
+    if let Some(a) = pattern_refused(pattern) {
+        return a;
+    }
+    with_loaded(table, work, |work| {
+        let rules = table.len() / 2;
+        let n = count_loaded(pattern, work, rules);
+        if result.len() < n {
+            return refused(9, n);
+        }
+        list_rule(work, rules - 1, 0, result);
+        done(n, 0)
+    })
+}

@@ -1,0 +1,189 @@
+//! The services of the proved library, for safe Rust: slices in, and a count or the refusal by its name out. It wants the static library that
+//! `bindings/build` makes: `rustc -L target/staticlib -l static=capi`.
+//!
+//! The work slice needs `WORK` words, the result slice as many entries as the result has; what they held before plays no part. On success the result
+//! stands at the front of the result slice and the rest is as it was; after a refusal all of it is. The work slice is as it was after the
+//! refusals 1 to 6; after the others and success its first `WORK` words are 0. Reading and locating take up to 240 KiB of stack.
+#![allow(dead_code)]
+
+use std::fmt;
+
+/// The words that a work slice needs.
+pub const WORK: usize = 16_384;
+
+/// The most samples of a text or a pattern: no result of `read`, `extract`, `locate` or `live_cuts` has more entries.
+pub const SAMPLES: usize = 2_047;
+
+/// The most words of a table.
+pub const TABLE: usize = 4_608;
+
+/// Why a service refuses: the first check that is met.
+#[derive(Clone, Copy, Debug, PartialEq, Eq)]
+#[non_exhaustive]
+pub enum Refusal {
+    TextTooLong,
+    PatternEmpty,
+    PatternTooLong,
+    WorkTooShort,
+    TableLength,
+    /// The lowest index of a bad word.
+    BadWord {
+        at: usize,
+    },
+    NotATable,
+    RangePastEnd,
+    /// How many entries the result has.
+    ResultTooShort {
+        needed: usize,
+    },
+}
+
+/// A text read back: how many samples were written, and the chair number.
+#[derive(Clone, Copy, Debug, PartialEq, Eq)]
+pub struct Reading {
+    pub samples: usize,
+    pub chair: u16,
+}
+
+/// Writes the table of a text and a chair number, and answers how many words it has.
+pub fn build(text: &[u8], chair: u16, work: &mut [u32], result: &mut [u32]) -> Result<usize, Refusal> {
+    let (w, n, r, m) = (work.as_mut_ptr(), work.len(), result.as_mut_ptr(), result.len());
+    counted(unsafe { sirbolta_build(text.as_ptr(), text.len(), chair, w, n, r, m) })
+}
+
+/// Whether these words are the table of some text and chair number: answers how many rules it has.
+pub fn check(table: &[u32], work: &mut [u32]) -> Result<usize, Refusal> {
+    counted(unsafe { sirbolta_check(table.as_ptr(), table.len(), work.as_mut_ptr(), work.len()) })
+}
+
+/// Writes the text of a table.
+pub fn read(table: &[u32], work: &mut [u32], result: &mut [u8]) -> Result<Reading, Refusal> {
+    let (w, n, r, m) = (work.as_mut_ptr(), work.len(), result.as_mut_ptr(), result.len());
+    let reply = unsafe { sirbolta_read(table.as_ptr(), table.len(), w, n, r, m) };
+    let chair = reply.chair as u16;
+    counted(reply).map(|samples| Reading { samples, chair })
+}
+
+/// Writes the part of the text that begins at `start` and has `length` samples, and answers `length`.
+pub fn extract(table: &[u32], start: usize, length: usize, work: &mut [u32], result: &mut [u8]) -> Result<usize, Refusal> {
+    let (w, n, r, m) = (work.as_mut_ptr(), work.len(), result.as_mut_ptr(), result.len());
+    counted(unsafe { sirbolta_extract(table.as_ptr(), table.len(), start, length, w, n, r, m) })
+}
+
+/// How often the pattern begins in the text, overlapping occurrences included.
+pub fn count(table: &[u32], pattern: &[u8], work: &mut [u32]) -> Result<usize, Refusal> {
+    let (p, k, w, n) = (pattern.as_ptr(), pattern.len(), work.as_mut_ptr(), work.len());
+    found(unsafe { sirbolta_count(table.as_ptr(), table.len(), p, k, w, n) })
+}
+
+/// Writes the positions at which the pattern begins in the text, rising, and answers how many there are.
+pub fn locate(table: &[u32], pattern: &[u8], work: &mut [u32], result: &mut [u32]) -> Result<usize, Refusal> {
+    let (p, k, w, n) = (pattern.as_ptr(), pattern.len(), work.as_mut_ptr(), work.len());
+    found(unsafe { sirbolta_locate(table.as_ptr(), table.len(), p, k, w, n, result.as_mut_ptr(), result.len()) })
+}
+
+/// Writes the live cuts of the pattern, rising, and answers how many there are.
+pub fn live_cuts(pattern: &[u8], result: &mut [u32]) -> Result<usize, Refusal> {
+    counted(unsafe { sirbolta_live_cuts(pattern.as_ptr(), pattern.len(), result.as_mut_ptr(), result.len()) })
+}
+
+impl Refusal {
+    /// The refusal's number.
+    pub fn number(self) -> u32 {
+        match self {
+            Refusal::TextTooLong => 1,
+            Refusal::PatternEmpty => 2,
+            Refusal::PatternTooLong => 3,
+            Refusal::WorkTooShort => 4,
+            Refusal::TableLength => 5,
+            Refusal::BadWord { .. } => 6,
+            Refusal::NotATable => 7,
+            Refusal::RangePastEnd => 8,
+            Refusal::ResultTooShort { .. } => 9,
+        }
+    }
+
+    /// The index of the bad word, the entries needed, otherwise 0.
+    pub fn place(self) -> usize {
+        match self {
+            Refusal::BadWord { at } => at,
+            Refusal::ResultTooShort { needed } => needed,
+            _ => 0,
+        }
+    }
+
+    fn named(number: u32, place: usize) -> Refusal {
+        match number {
+            1 => Refusal::TextTooLong,
+            2 => Refusal::PatternEmpty,
+            3 => Refusal::PatternTooLong,
+            4 => Refusal::WorkTooShort,
+            5 => Refusal::TableLength,
+            6 => Refusal::BadWord { at: place },
+            7 => Refusal::NotATable,
+            8 => Refusal::RangePastEnd,
+            9 => Refusal::ResultTooShort { needed: place },
+            _ => unreachable!("the library has no refusal {number}"),
+        }
+    }
+}
+
+impl fmt::Display for Refusal {
+    fn fmt(&self, f: &mut fmt::Formatter) -> fmt::Result {
+        write!(f, "refused {}: ", self.number())?;
+        match self {
+            Refusal::TextTooLong => write!(f, "the text has more than 2,047 samples"),
+            Refusal::PatternEmpty => write!(f, "the pattern has no sample"),
+            Refusal::PatternTooLong => write!(f, "the pattern has more than 2,047 samples"),
+            Refusal::WorkTooShort => write!(f, "the work slice has fewer than 16,384 words"),
+            Refusal::TableLength => write!(f, "the table has no word, an odd number of words, or more than 4,608"),
+            Refusal::BadWord { at } => write!(f, "word {at} of the table is bad"),
+            Refusal::NotATable => write!(f, "no text and chair number has this table"),
+            Refusal::RangePastEnd => write!(f, "the range reaches past the end of the text"),
+            Refusal::ResultTooShort { needed } => write!(f, "the result slice is too short, {needed} entries are needed"),
+        }
+    }
+}
+
+impl std::error::Error for Refusal {}
+
+fn counted(reply: Reply) -> Result<usize, Refusal> {
+    match reply.number {
+        0 => Ok(reply.count as usize),
+        number => Err(Refusal::named(number, reply.place as usize)),
+    }
+}
+
+fn found(reply: SearchReply) -> Result<usize, Refusal> {
+    match reply.number {
+        0 => Ok(reply.count as usize),
+        number => Err(Refusal::named(number, reply.place as usize)),
+    }
+}
+
+#[repr(C)]
+struct Reply {
+    number: u32,
+    chair: u32,
+    place: u64,
+    count: u64,
+}
+
+#[repr(C)]
+struct SearchReply {
+    number: u32,
+    chair: u32,
+    place: u64,
+    count: u64,
+}
+
+#[rustfmt::skip]
+unsafe extern "C" {
+    fn sirbolta_build(text: *const u8, text_len: usize, chair: u16, work: *mut u32, work_len: usize, result: *mut u32, result_len: usize) -> Reply;
+    fn sirbolta_check(table: *const u32, table_len: usize, work: *mut u32, work_len: usize) -> Reply;
+    fn sirbolta_read(table: *const u32, table_len: usize, work: *mut u32, work_len: usize, result: *mut u8, result_len: usize) -> Reply;
+    fn sirbolta_extract(table: *const u32, table_len: usize, start: usize, length: usize, work: *mut u32, work_len: usize, result: *mut u8, result_len: usize) -> Reply;
+    fn sirbolta_count(table: *const u32, table_len: usize, pattern: *const u8, pattern_len: usize, work: *mut u32, work_len: usize) -> SearchReply;
+    fn sirbolta_locate(table: *const u32, table_len: usize, pattern: *const u8, pattern_len: usize, work: *mut u32, work_len: usize, result: *mut u32, result_len: usize) -> SearchReply;
+    fn sirbolta_live_cuts(pattern: *const u8, pattern_len: usize, result: *mut u32, result_len: usize) -> Reply;
+}

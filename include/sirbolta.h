@@ -1,0 +1,72 @@
+/*
+ * Sirbolta: a drive stored as its Lyndon grammar, checked, read back and searched.
+ *
+ * A text is a drive: 0 to 2,047 samples of one byte. A pattern is 1 to 2,047 samples. A table is what sirbolta_build writes: words of 32 bits,
+ * at most 4,608. Positions count from 0.
+ *
+ * A slice is a pointer and a length in entries; a null pointer with length 0 is fine. The caller sees to it that
+ *   - each pointer is valid for its length, and a pointer to words is aligned to 4 bytes;
+ *   - the work slice and the result slice overlap neither each other nor an input.
+ * Everything else is checked. Inputs are never written, nothing is allocated and nothing is kept between calls, so threads may call at the
+ * same time, each with slices of its own. Reading back and locating take up to 240 KiB of stack, every other service less than 2 KiB.
+ *
+ * A reply's number is 0 on success; otherwise it is the first of these that is met and concerns the service:
+ *
+ *   1  text too long       the text has more than 2,047 samples                        build
+ *   2  pattern empty       the pattern has no sample                                   count, locate, live_cuts
+ *   3  pattern too long    the pattern has more than 2,047 samples                     count, locate, live_cuts
+ *   4  work too short      the work slice has fewer than 16,384 words                  all but live_cuts
+ *   5  table length        the table has no word, an odd number, or more than 4,608    check, read, extract, count, locate
+ *   6  bad word            a word of the table is bad                                  check, read, extract, count, locate
+ *   7  not a table         no bad word, yet the table of no text and chair number      check, read, extract, count, locate
+ *   8  range past the end  start + length is above the text's length (it never wraps)  extract
+ *   9  result too short    the result slice has fewer entries than the result          build, read, extract, locate, live_cuts
+ *
+ * Place is the lowest index of a bad word for 6, the entries needed for 9, otherwise 0. Count is what the service says on success, 0 when it
+ * refuses. Chair is the chair number where sirbolta_read succeeds, otherwise 0.
+ *
+ * The result slice afterwards: on success the result stands at its front and the rest is as it was; after a refusal all is as it was.
+ * The work slice afterwards: after 1 to 6 it is as it was; after 7, 8, 9 and success its first 16,384 words are 0 and the rest is as it was.
+ * What either held before plays no part.
+ */
+#ifndef SIRBOLTA_H
+#define SIRBOLTA_H
+
+#include <stddef.h>
+#include <stdint.h>
+
+#ifdef __cplusplus
+extern "C" {
+#endif
+
+typedef struct { uint32_t number; uint32_t chair; uint64_t place; uint64_t count; } sirbolta_reply;
+
+/* What counting and locating reply with. */
+typedef struct { uint32_t number; uint32_t chair; uint64_t place; uint64_t count; } sirbolta_search_reply;
+
+/* Writes the table of a text and a chair number. Count: the words written, two a rule. */
+sirbolta_reply sirbolta_build(const uint8_t *text, size_t text_len, uint16_t chair, uint32_t *work, size_t work_len, uint32_t *result, size_t result_len);
+
+/* Whether these words are the table of some text and chair number. Count: the rules. */
+sirbolta_reply sirbolta_check(const uint32_t *table, size_t table_len, uint32_t *work, size_t work_len);
+
+/* Writes the text of a table. Count: the samples written. Chair: the chair number. */
+sirbolta_reply sirbolta_read(const uint32_t *table, size_t table_len, uint32_t *work, size_t work_len, uint8_t *result, size_t result_len);
+
+/* Writes the part of the text that begins at start and has length samples. Count: the samples written. */
+sirbolta_reply sirbolta_extract(const uint32_t *table, size_t table_len, size_t start, size_t length, uint32_t *work, size_t work_len, uint8_t *result, size_t result_len);
+
+/* Count: how often the pattern begins in the text, overlapping occurrences included. */
+sirbolta_search_reply sirbolta_count(const uint32_t *table, size_t table_len, const uint8_t *pattern, size_t pattern_len, uint32_t *work, size_t work_len);
+
+/* Writes the positions at which the pattern begins in the text, rising, each once. Count: the positions written. */
+sirbolta_search_reply sirbolta_locate(const uint32_t *table, size_t table_len, const uint8_t *pattern, size_t pattern_len, uint32_t *work, size_t work_len, uint32_t *result, size_t result_len);
+
+/* Writes the live cuts of the pattern, rising, each once. Count: the cuts written. */
+sirbolta_reply sirbolta_live_cuts(const uint8_t *pattern, size_t pattern_len, uint32_t *result, size_t result_len);
+
+#ifdef __cplusplus
+}
+#endif
+
+#endif

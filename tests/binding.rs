@@ -1,0 +1,87 @@
+//! Tests the Rust module: every case of a vector file that calls a service, and every refusal by its name. `binding FILE`.
+
+mod calls;
+#[path = "../bindings/rust/sirbolta.rs"]
+mod sirbolta;
+mod vector_file;
+
+use calls::*;
+use sirbolta::{Reading, Refusal, SAMPLES, TABLE, WORK};
+use vector_file::{cases, Test};
+
+fn main() {
+    let file = std::env::args().nth(1).expect("usage: binding FILE");
+    let cases = cases(&std::fs::read_to_string(file).unwrap()).unwrap();
+    let mut agreed = 0;
+    for case in &cases {
+        if let Test::Service { call, lent, want } = &case.test {
+            if let Some(wrong) = difference(&serve(call, lent), want) {
+                println!("rust module: case {}: {wrong}", case.number);
+                std::process::exit(1);
+            }
+            agreed += 1;
+        }
+    }
+    every_refusal();
+    println!("rust module: {agreed} cases agree, 9 refusals by name");
+}
+
+/// What the module answers and leaves.
+fn serve(call: &Call, lent: &Slices) -> (Outcome, Slices) {
+    let mut left = lent.clone();
+    let Slices { work, words, bytes } = &mut left;
+    let answer = match call {
+        Call::Build { text, chair } => sirbolta::build(text, *chair, work, words),
+        Call::Check { table } => sirbolta::check(table, work),
+        Call::Extract { table, start, length } => sirbolta::extract(table, *start, *length, work, bytes),
+        Call::Count { table, pattern } => sirbolta::count(table, pattern, work),
+        Call::Locate { table, pattern } => sirbolta::locate(table, pattern, work, words),
+        Call::Cuts { pattern } => sirbolta::live_cuts(pattern, words),
+        Call::Read { table } => return (outcome(sirbolta::read(table, work, bytes)), left),
+    };
+    (outcome(answer.map(|samples| Reading { samples, chair: 0 })), left)
+}
+
+fn outcome(answer: Result<Reading, Refusal>) -> Outcome {
+    match answer {
+        Ok(reading) => Outcome { number: 0, place: 0, count: reading.samples as u64, chair: reading.chair as u32 },
+        Err(refusal) => Outcome { number: refusal.number(), place: refusal.place() as u64, count: 0, chair: 0 },
+    }
+}
+
+fn every_refusal() {
+    let mut work = vec![7; WORK];
+    let mut result = vec![7; TABLE];
+    let mut bytes = vec![7; SAMPLES];
+    let words = sirbolta::build(b"aaaa", 40, &mut work, &mut result).unwrap();
+    let table = result[..words].to_vec();
+    let answers = [
+        sirbolta::build(&[0; 2048], 40, &mut work, &mut result),
+        sirbolta::count(&table, b"", &mut work),
+        sirbolta::live_cuts(&[0; 2048], &mut result),
+        sirbolta::check(&table, &mut work[1..]),
+        sirbolta::check(&table[1..], &mut work),
+        sirbolta::check(&[0, 3 << 30, 257, 3 << 30], &mut work),
+        sirbolta::check(&[98, 3 << 30], &mut work),
+        sirbolta::extract(&table, 3, usize::MAX, &mut work, &mut bytes),
+        sirbolta::locate(&table, b"aa", &mut work, &mut result[..2]),
+    ];
+    let names = [
+        Refusal::TextTooLong,
+        Refusal::PatternEmpty,
+        Refusal::PatternTooLong,
+        Refusal::WorkTooShort,
+        Refusal::TableLength,
+        Refusal::BadWord { at: 2 },
+        Refusal::NotATable,
+        Refusal::RangePastEnd,
+        Refusal::ResultTooShort { needed: 3 },
+    ];
+    for (i, (answer, name)) in answers.into_iter().zip(names).enumerate() {
+        assert_eq!(answer, Err(name));
+        assert_eq!(name.number() as usize, i + 1);
+        assert!(name.to_string().starts_with(&format!("refused {}: ", i + 1)));
+    }
+    assert_eq!(sirbolta::read(&table, &mut work, &mut bytes), Ok(Reading { samples: 4, chair: 40 }));
+    assert_eq!(&bytes[..5], b"aaaa\x07");
+}

@@ -1,0 +1,65 @@
+//! One call of a service, the slices that it is lent, and what it answers.
+#![allow(dead_code)]
+
+#[derive(Clone, Debug)]
+pub enum Call {
+    Build { text: Vec<u8>, chair: u16 },
+    Check { table: Vec<u32> },
+    Read { table: Vec<u32> },
+    Extract { table: Vec<u32>, start: usize, length: usize },
+    Count { table: Vec<u32>, pattern: Vec<u8> },
+    Locate { table: Vec<u32>, pattern: Vec<u8> },
+    Cuts { pattern: Vec<u8> },
+}
+
+/// The slices lent to a call. The result slice is the one in the service's unit, words or bytes; a slice that the service does not take is empty.
+#[derive(Clone, Debug, Default, PartialEq)]
+pub struct Slices {
+    pub work: Vec<u32>,
+    pub words: Vec<u32>,
+    pub bytes: Vec<u8>,
+}
+
+/// What a service answers: a refusal's number and place, or number 0 with count and chair number.
+#[derive(Clone, Copy, Debug, PartialEq)]
+pub struct Outcome {
+    pub number: u32,
+    pub place: u64,
+    pub count: u64,
+    pub chair: u32,
+}
+
+pub const SERVICES: [&str; 7] = ["build", "check", "read", "extract", "count", "locate", "cuts"];
+
+impl Call {
+    /// The service's place in `SERVICES`.
+    pub fn service(&self) -> usize {
+        match self {
+            Call::Build { .. } => 0,
+            Call::Check { .. } => 1,
+            Call::Read { .. } => 2,
+            Call::Extract { .. } => 3,
+            Call::Count { .. } => 4,
+            Call::Locate { .. } => 5,
+            Call::Cuts { .. } => 6,
+        }
+    }
+}
+
+/// The first way in which what a call answered and left differs from what it should have.
+pub fn difference(got: &(Outcome, Slices), want: &(Outcome, Slices)) -> Option<String> {
+    if got.0 != want.0 {
+        return Some(format!("answer {:?}, not {:?}", got.0, want.0));
+    }
+    let (a, b) = (&got.1, &want.1);
+    let slices = [differs("work", &a.work, &b.work), differs("result", &a.words, &b.words), differs("result", &a.bytes, &b.bytes)];
+    slices.into_iter().flatten().next()
+}
+
+fn differs<T: PartialEq + std::fmt::Debug>(name: &str, got: &[T], want: &[T]) -> Option<String> {
+    if got == want {
+        return None;
+    }
+    let i = got.iter().zip(want).take_while(|(g, w)| g == w).count();
+    Some(format!("the {name} slice has {:?} at {i}, not {:?}", got.get(i), want.get(i)))
+}

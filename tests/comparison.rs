@@ -1,0 +1,166 @@
+//! Compares the library with the naive implementation on generated inputs: number, place, count, chair number, and all of every lent slice. The first
+//! disagreement is printed and ends the run.
+
+mod calls;
+mod damage;
+mod inputs;
+mod lending;
+mod library;
+mod naive;
+mod tally;
+
+use calls::*;
+use damage::every_table;
+use inputs::{distinct_pairs, fibonacci, Generator};
+use naive::Naive;
+use tally::Tally;
+
+fn main() {
+    let long = std::thread::spawn(|| Comparison::new(0x9E3779B97F4A7C15).long_texts());
+    let mut tally = Comparison::new(0xD1B54A32D192ED03).short_texts();
+    tally.add_all(&long.join().unwrap());
+    println!("comparison: {} calls agree with the naive implementation", tally.total());
+    tally.print();
+}
+
+struct Comparison {
+    generator: Generator,
+    naive: Naive,
+    tally: Tally,
+}
+
+impl Comparison {
+    fn new(seed: u64) -> Self {
+        Comparison { generator: Generator::new(seed), naive: Naive::default(), tally: Tally::default() }
+    }
+
+    fn short_texts(mut self) -> Tally {
+        self.every_small_text();
+        for rules in 1..=5 {
+            every_table(rules).into_iter().for_each(|table| self.compare_once(Call::Check { table }));
+        }
+        for _ in 0..4000 {
+            let n = self.generator.below(61);
+            let text = self.generator.text(n);
+            self.text(&text, 3, 3);
+        }
+        self.tally
+    }
+
+    fn long_texts(mut self) -> Tally {
+        for n in [2046, 2047, 2048, 3000] {
+            self.text(&distinct_pairs(0, n), 4, 4);
+            self.text(&fibonacci(b'a', b'b', n), 4, 4);
+            self.text(&vec![255; n], 4, 4);
+        }
+        for _ in 0..120 {
+            let any = self.generator.below(2048);
+            let n = self.generator.one_of(&[2047, 2047, any, any]);
+            let text = self.generator.text(n);
+            self.text(&text, 6, 8);
+        }
+        self.tally
+    }
+
+    /// Every text of two values up to 7 samples, with every pattern up to 4, and live cuts up to 10.
+    fn every_small_text(&mut self) {
+        for text in (0..=7).flat_map(every_text) {
+            let table = self.table_of(&text, 40);
+            self.compare_once(Call::Read { table: table.clone() });
+            for pattern in (1..=4).flat_map(every_text) {
+                self.compare_once(Call::Count { table: table.clone(), pattern: pattern.clone() });
+                self.compare_once(Call::Locate { table: table.clone(), pattern });
+            }
+        }
+        (1..=10).flat_map(every_text).for_each(|pattern| self.compare_once(Call::Cuts { pattern }));
+    }
+
+    /// Every service on the table of a text, and on tables made from it.
+    fn text(&mut self, text: &[u8], searches: usize, damages: usize) {
+        let chair = self.generator.chair();
+        self.compare(Call::Build { text: text.to_vec(), chair });
+        let text = &text[..text.len().min(2047)];
+        let table = self.table_of(text, chair);
+        self.compare(Call::Check { table: table.clone() });
+        self.compare(Call::Read { table: table.clone() });
+        for _ in 0..searches {
+            self.search(&table, text);
+        }
+        for _ in 0..damages {
+            let other = self.generator.damaged(&table);
+            self.compare(Call::Check { table: other.clone() });
+            match self.generator.once_in(3) {
+                true => self.compare(Call::Read { table: other }),
+                false => self.search(&other, text),
+            }
+        }
+    }
+
+    /// A part, a count, a list and live cuts.
+    fn search(&mut self, table: &[u32], text: &[u8]) {
+        let start = self.generator.bound(text.len());
+        let length = self.generator.bound(text.len().saturating_sub(start));
+        self.compare(Call::Extract { table: table.to_vec(), start, length });
+        let pattern = self.generator.pattern(text);
+        self.compare(Call::Count { table: table.to_vec(), pattern: pattern.clone() });
+        self.compare(Call::Locate { table: table.to_vec(), pattern: pattern.clone() });
+        self.compare(Call::Cuts { pattern });
+    }
+
+    /// The table of a text as the library builds it, which is compared too.
+    fn table_of(&mut self, text: &[u8], chair: u16) -> Vec<u32> {
+        let call = Call::Build { text: text.to_vec(), chair };
+        let lent = self.lent(&call, 16384, 4608);
+        let (outcome, mut left) = self.compared(&call, &lent);
+        left.words.truncate(outcome.count as usize);
+        left.words
+    }
+
+    /// The call on slices that are long enough, then on slices of other lengths.
+    fn compare(&mut self, call: Call) {
+        let lent = self.lent(&call, 16384, 4608);
+        let (outcome, _) = self.compared(&call, &lent);
+        let (work, result) = (self.generator.work_length(), self.generator.result_length(outcome.count as usize));
+        let lent = self.lent(&call, work, result);
+        self.compared(&call, &lent);
+    }
+
+    fn compare_once(&mut self, call: Call) {
+        let lent = self.lent(&call, 16384, 16);
+        self.compared(&call, &lent);
+    }
+
+    /// Slices of these lengths for a call, with any content.
+    fn lent(&mut self, call: &Call, work: usize, result: usize) -> Slices {
+        let g = &mut self.generator;
+        match call {
+            Call::Build { .. } | Call::Locate { .. } => Slices { work: g.words(work), words: g.words(result), bytes: vec![] },
+            Call::Read { .. } | Call::Extract { .. } => Slices { work: g.words(work), words: vec![], bytes: g.bytes(result) },
+            Call::Check { .. } | Call::Count { .. } => Slices { work: g.words(work), words: vec![], bytes: vec![] },
+            Call::Cuts { .. } => Slices { work: vec![], words: g.words(result), bytes: vec![] },
+        }
+    }
+
+    /// What the library answers and leaves, which is what the naive implementation does.
+    fn compared(&mut self, call: &Call, lent: &Slices) -> (Outcome, Slices) {
+        let null = self.generator.once_in(2);
+        let got = lending::serve(call, lent, null);
+        let want = self.naive.answer(call, lent);
+        let wrong = match &got {
+            Ok(got) => difference(got, &want),
+            Err(wrong) => Some(wrong.clone()),
+        };
+        if let Some(wrong) = wrong {
+            let (work, words, bytes) = (lent.work.len(), lent.words.len(), lent.bytes.len());
+            println!("comparison: {wrong}\n{call:?}\nwork {work} words, result {words} words, {bytes} bytes, null {null}");
+            std::process::exit(1);
+        }
+        self.tally.add(call, &want.0);
+        want
+    }
+}
+
+/// Every text of n samples `a` and `b`.
+fn every_text(n: u32) -> impl Iterator<Item = Vec<u8>> {
+    (0..1u32 << n).map(move |bits| (0..n).map(|i| b'a' + (bits >> i & 1) as u8).collect())
+}

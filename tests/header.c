@@ -1,0 +1,52 @@
+/* The header as C sees it: the layout of the replies, and one call of each function. */
+#include "../include/sirbolta.h"
+
+#include <stdio.h>
+#include <string.h>
+
+_Static_assert(sizeof(sirbolta_reply) == 24, "reply");
+_Static_assert(offsetof(sirbolta_reply, chair) == 4, "chair");
+_Static_assert(offsetof(sirbolta_reply, place) == 8, "place");
+_Static_assert(offsetof(sirbolta_reply, count) == 16, "count");
+_Static_assert(sizeof(sirbolta_search_reply) == 24, "search reply");
+_Static_assert(offsetof(sirbolta_search_reply, chair) == 4, "chair");
+_Static_assert(offsetof(sirbolta_search_reply, place) == 8, "place");
+_Static_assert(offsetof(sirbolta_search_reply, count) == 16, "count");
+
+enum { WORK = 16384, WORDS = 12 };
+
+static const uint32_t abab[WORDS] = {0x00000000, 0xC0000028, 0x00000062, 0xC0000000, 0x00000063, 0xC0000000,
+                                     0x40000001, 0x80000002, 0x40000000, 0x80000003, 0x40000004, 0x80000003};
+static uint32_t work[WORK];
+static uint32_t words[WORDS];
+static uint8_t samples[4];
+static int wrong;
+
+static void want(const char *service, int right) {
+    if (!right) {
+        printf("header: %s answers something else\n", service);
+        wrong = 1;
+    }
+}
+
+static int is(sirbolta_reply r, uint32_t number, uint64_t place, uint64_t count, uint32_t chair) {
+    return r.number == number && r.place == place && r.count == count && r.chair == chair;
+}
+
+static int found(sirbolta_search_reply r, uint32_t number, uint64_t place, uint64_t count) {
+    return r.number == number && r.place == place && r.count == count && r.chair == 0;
+}
+
+int main(void) {
+    const uint8_t text[4] = {97, 98, 97, 98};
+    want("build", is(sirbolta_build(text, 4, 40, work, WORK, words, WORDS), 0, 0, WORDS, 0) && memcmp(words, abab, sizeof abab) == 0);
+    want("check", is(sirbolta_check(abab, WORDS, work, WORK), 0, 0, 6, 0));
+    want("read", is(sirbolta_read(abab, WORDS, work, WORK, samples, 4), 0, 0, 4, 40) && memcmp(samples, text, 4) == 0);
+    want("extract", is(sirbolta_extract(abab, WORDS, 1, 2, work, WORK, samples, 4), 0, 0, 2, 0) && samples[0] == 98 && samples[1] == 97);
+    want("count", found(sirbolta_count(abab, WORDS, text, 2, work, WORK), 0, 0, 2));
+    want("locate", found(sirbolta_locate(abab, WORDS, text, 2, work, WORK, words, 2), 0, 0, 2) && words[0] == 0 && words[1] == 2);
+    want("live_cuts", is(sirbolta_live_cuts(text, 4, words, 1), 0, 0, 1, 0) && words[0] == 2);
+    want("a null table", is(sirbolta_check(NULL, 0, work, WORK), 5, 0, 0, 0));
+    if (!wrong) printf("header: 8 calls from C are right\n");
+    return wrong;
+}

@@ -1,0 +1,187 @@
+//! What each service answers and leaves in the slices, by the table of refusals: each is given if its condition is met and no lower-numbered one
+//! that concerns the service is.
+
+use super::tables::{bad_word, drive_of, table_of};
+use super::words::{live_cuts, occurrences};
+use crate::calls::*;
+
+/// What a table is: the lowest index of a bad word, the table of no drive, or that of a drive and chair number.
+#[derive(Clone)]
+enum Verdict {
+    Bad(usize),
+    Foreign,
+    Drive(Vec<u8>, u16),
+}
+
+/// The answers, with the last table judged and the last one built kept, so that many calls on one table judge it once.
+#[derive(Default)]
+pub struct Naive {
+    judged: Option<(Vec<u32>, Verdict)>,
+    built: Option<(Vec<u8>, u16, Vec<u32>)>,
+}
+
+/// What a service writes.
+enum Written {
+    Nothing,
+    Words(Vec<u32>),
+    Bytes(Vec<u8>),
+}
+
+impl Naive {
+    /// What the call answers and leaves.
+    pub fn answer(&mut self, call: &Call, lent: &Slices) -> (Outcome, Slices) {
+        for number in (1..=8).filter(|&number| concerns(call, number)) {
+            if let Some(place) = self.met(call, number, lent) {
+                let left = if number < 7 { lent.clone() } else { cleared(lent) };
+                return (refusal(number, place), left);
+            }
+        }
+        let written = self.written(call);
+        let mut left = cleared(lent);
+        let (needed, there) = match &written {
+            Written::Nothing => (0, 0),
+            Written::Words(words) => (words.len(), left.words.len()),
+            Written::Bytes(bytes) => (bytes.len(), left.bytes.len()),
+        };
+        if there < needed {
+            return (refusal(9, needed), left);
+        }
+        match written {
+            Written::Nothing => {}
+            Written::Words(words) => left.words[..needed].copy_from_slice(&words),
+            Written::Bytes(bytes) => left.bytes[..needed].copy_from_slice(&bytes),
+        }
+        (self.success(call, needed), left)
+    }
+
+    /// Whether refusal `number` is met, and with which place; asked only where no lower one is.
+    fn met(&mut self, call: &Call, number: u32, lent: &Slices) -> Option<usize> {
+        let met = match number {
+            1 => text(call).len() > 2047,
+            2 => pattern(call).is_empty(),
+            3 => pattern(call).len() > 2047,
+            4 => lent.work.len() < 16384,
+            5 => matches!(table(call).len(), 0 | 4609..) || table(call).len() % 2 == 1,
+            6 => match self.verdict(table(call)) {
+                Verdict::Bad(place) => return Some(place),
+                _ => false,
+            },
+            7 => matches!(self.verdict(table(call)), Verdict::Foreign),
+            _ => match call {
+                Call::Extract { start, length, .. } => *start as u128 + *length as u128 > self.drive(call).len() as u128,
+                _ => false,
+            },
+        };
+        met.then_some(0)
+    }
+
+    /// Success gives the number of entries written; checking gives the rules, counting the finds, and reading back adds the chair number.
+    fn success(&mut self, call: &Call, entries: usize) -> Outcome {
+        let (count, chair) = match call {
+            Call::Check { table } => (table.len() / 2, 0),
+            Call::Count { pattern, .. } => (occurrences(pattern, &self.drive(call)).len(), 0),
+            Call::Read { table } => (entries, self.chair(table)),
+            _ => (entries, 0),
+        };
+        Outcome { number: 0, place: 0, count: count as u64, chair: chair as u32 }
+    }
+
+    fn written(&mut self, call: &Call) -> Written {
+        match call {
+            Call::Build { text, chair } => Written::Words(self.build(text, *chair)),
+            Call::Read { .. } => Written::Bytes(self.drive(call)),
+            Call::Extract { start, length, .. } => Written::Bytes(self.drive(call)[*start..*start + *length].to_vec()),
+            Call::Locate { pattern, .. } => Written::Words(as_words(&occurrences(pattern, &self.drive(call)))),
+            Call::Cuts { pattern } => Written::Words(as_words(&live_cuts(pattern))),
+            Call::Check { .. } | Call::Count { .. } => Written::Nothing,
+        }
+    }
+
+    /// The drive of the call's table, which is accepted.
+    fn drive(&mut self, call: &Call) -> Vec<u8> {
+        match self.verdict(table(call)) {
+            Verdict::Drive(text, _) => text,
+            _ => vec![],
+        }
+    }
+
+    fn chair(&mut self, table: &[u32]) -> u16 {
+        match self.verdict(table) {
+            Verdict::Drive(_, chair) => chair,
+            _ => 0,
+        }
+    }
+
+    fn verdict(&mut self, table: &[u32]) -> Verdict {
+        match &self.judged {
+            Some((judged, verdict)) if judged == table => verdict.clone(),
+            _ => {
+                let verdict = match bad_word(table) {
+                    Some(place) => Verdict::Bad(place),
+                    None => drive_of(table).map_or(Verdict::Foreign, |(text, chair)| Verdict::Drive(text, chair)),
+                };
+                self.judged = Some((table.to_vec(), verdict.clone()));
+                verdict
+            }
+        }
+    }
+
+    fn build(&mut self, text: &[u8], chair: u16) -> Vec<u32> {
+        match &self.built {
+            Some((t, c, words)) if t == text && *c == chair => words.clone(),
+            _ => {
+                let words = table_of(text, chair);
+                self.built = Some((text.to_vec(), chair, words.clone()));
+                words
+            }
+        }
+    }
+}
+
+/// Whether a refusal from 1 to 8 concerns the service; 9 concerns whatever writes a result.
+fn concerns(call: &Call, number: u32) -> bool {
+    match number {
+        1 => matches!(call, Call::Build { .. }),
+        2 | 3 => matches!(call, Call::Count { .. } | Call::Locate { .. } | Call::Cuts { .. }),
+        4 => !matches!(call, Call::Cuts { .. }),
+        5..=7 => !matches!(call, Call::Build { .. } | Call::Cuts { .. }),
+        _ => matches!(call, Call::Extract { .. }),
+    }
+}
+
+fn refusal(number: u32, place: usize) -> Outcome {
+    Outcome { number, place: place as u64, count: 0, chair: 0 }
+}
+
+/// The slices with the first 16,384 words of the work slice zero; the live cuts take no work slice.
+fn cleared(lent: &Slices) -> Slices {
+    let mut left = lent.clone();
+    left.work.iter_mut().take(16384).for_each(|word| *word = 0);
+    left
+}
+
+fn as_words(numbers: &[usize]) -> Vec<u32> {
+    numbers.iter().map(|&number| number as u32).collect()
+}
+
+fn text(call: &Call) -> &[u8] {
+    match call {
+        Call::Build { text, .. } => text,
+        _ => &[],
+    }
+}
+
+fn pattern(call: &Call) -> &[u8] {
+    match call {
+        Call::Count { pattern, .. } | Call::Locate { pattern, .. } | Call::Cuts { pattern } => pattern,
+        _ => &[],
+    }
+}
+
+fn table(call: &Call) -> &[u32] {
+    match call {
+        Call::Build { .. } | Call::Cuts { .. } => &[],
+        Call::Check { table } | Call::Read { table } | Call::Extract { table, .. } => table,
+        Call::Count { table, .. } | Call::Locate { table, .. } => table,
+    }
+}

@@ -1,0 +1,91 @@
+//! The table of a drive and chair number, the bad words of a table, and whether a table is that of some drive and chair number.
+
+use super::words::Common;
+use std::collections::HashMap;
+
+/// The words of the table of a drive and a chair number.
+pub fn table_of(text: &[u8], chair: u16) -> Vec<u32> {
+    let marked: Vec<u16> = std::iter::once(0).chain(text.iter().map(|&sample| sample as u16 + 1)).collect();
+    let mut numbering = Numbering { common: Common::new(&marked), marked: &marked, rules: HashMap::new(), words: Vec::new() };
+    numbering.meet(0, marked.len());
+    let mut words = numbering.words;
+    words[1] = 3 << 30 | chair as u32;
+    words
+}
+
+/// The strings met so far, each with its rule, and the words of these rules.
+struct Numbering<'a> {
+    marked: &'a [u16],
+    common: Common<'a, u16>,
+    rules: HashMap<&'a [u16], u32>,
+    words: Vec<u32>,
+}
+
+impl Numbering<'_> {
+    /// Meets the node from `start` to `end` after its left part and then its right part, and answers its rule.
+    fn meet(&mut self, start: usize, end: usize) -> u32 {
+        let string = &self.marked[start..end];
+        let words = match string {
+            [symbol] => [*symbol as u32, 3 << 30],
+            _ => {
+                let middle = self.common.split(start, end);
+                [1 << 30 | self.meet(start, middle), 2 << 30 | self.meet(middle, end)]
+            }
+        };
+        let next = self.words.len() as u32 / 2;
+        let rule = *self.rules.entry(string).or_insert(next);
+        if rule == next {
+            self.words.extend(words);
+        }
+        rule
+    }
+}
+
+/// Whether word i of a table is bad; asked only where no word before it is.
+fn is_bad(table: &[u32], i: usize) -> bool {
+    let rule = (i / 2) as u32;
+    let (kind, number) = parts(table[i]);
+    if i % 2 == 0 {
+        let symbol = kind == 0 && number <= 256;
+        let left = kind == 1 && number < rule;
+        return !symbol && !left;
+    }
+    match parts(table[i - 1]).0 {
+        1 => !(kind == 2 && number < rule),
+        _ => kind != 3 || number > if i == 1 { 65535 } else { 0 },
+    }
+}
+
+/// A word's kind and number.
+fn parts(word: u32) -> (u32, u32) {
+    (word / (1 << 30), word % (1 << 30))
+}
+
+/// The lowest index of a bad word.
+pub fn bad_word(table: &[u32]) -> Option<usize> {
+    (0..table.len()).find(|&i| is_bad(table, i))
+}
+
+/// The drive and chair number of a table without a bad word, if there are any.
+pub fn drive_of(table: &[u32]) -> Option<(Vec<u8>, u16)> {
+    let mut symbols = Vec::new();
+    spell(table, table.len() / 2 - 1, &mut symbols);
+    let samples = symbols.strip_prefix(&[0])?;
+    let text: Vec<u8> = samples.iter().map(|&symbol| symbol.checked_sub(1).map(|sample| sample as u8)).collect::<Option<_>>()?;
+    let chair = parts(table[1]).1 as u16;
+    (text.len() <= 2047 && table_of(&text, chair) == table).then_some((text, chair))
+}
+
+/// Adds the string of a rule, and stops once there are more symbols than a marked drive has.
+fn spell(table: &[u32], rule: usize, symbols: &mut Vec<u32>) {
+    if symbols.len() > 2048 {
+        return;
+    }
+    let (kind, number) = parts(table[2 * rule]);
+    if kind == 0 {
+        symbols.push(number);
+    } else {
+        spell(table, number as usize, symbols);
+        spell(table, parts(table[2 * rule + 1]).1 as usize, symbols);
+    }
+}

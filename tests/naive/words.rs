@@ -1,0 +1,102 @@
+//! Strings: which is smaller, Lyndon words, the standard factorization, live cuts and occurrences.
+//!
+//! A long string has `Common`, a table of how far any two of its suffixes agree. What it answers is compared with the wording on short strings.
+
+use std::cmp::Ordering;
+
+/// The longest string for which the wording itself is followed.
+const SHORT: usize = 64;
+
+/// Strings compare at their first different symbol; a proper prefix is smaller than the longer string.
+pub fn smaller<T: Ord>(x: &[T], y: &[T]) -> bool {
+    match first_difference(x, y) {
+        Some(order) => order == Ordering::Less,
+        None => x.len() < y.len(),
+    }
+}
+
+fn first_difference<T: Ord>(x: &[T], y: &[T]) -> Option<Ordering> {
+    x.iter().zip(y).map(|(a, b)| a.cmp(b)).find(|&order| order != Ordering::Equal)
+}
+
+/// Not empty, and smaller than each of its proper suffixes but the empty one.
+pub fn is_lyndon<T: Ord>(w: &[T]) -> bool {
+    !w.is_empty() && (1..w.len()).all(|i| smaller(w, &w[i..]))
+}
+
+/// Where the longest proper suffix that is a Lyndon word begins.
+fn split_by_wording<T: Ord>(w: &[T]) -> usize {
+    (1..w.len()).find(|&k| is_lyndon(&w[k..])).unwrap()
+}
+
+/// One of the two tails is a prefix of the other, or the first is smaller at their first difference.
+fn passes<T: Ord>(tail: &[T], other: &[T]) -> bool {
+    !matches!(first_difference(tail, other), Some(Ordering::Greater))
+}
+
+fn cuts_by_wording<T: Ord>(p: &[T]) -> Vec<usize> {
+    let live = |c: usize| (1..p.len()).filter(|&d| d != c).all(|d| passes(&p[c..], &p[d..]));
+    (1..p.len()).filter(|&c| live(c)).collect()
+}
+
+/// The live cuts of a pattern, rising.
+pub fn live_cuts(p: &[u8]) -> Vec<usize> {
+    if p.len() > SHORT {
+        return Common::new(p).live_cuts();
+    }
+    let cuts = cuts_by_wording(p);
+    assert_eq!(cuts, Common::new(p).live_cuts(), "live cuts of {p:?}");
+    cuts
+}
+
+/// The positions at which a pattern begins in a text, rising.
+pub fn occurrences(pattern: &[u8], text: &[u8]) -> Vec<usize> {
+    let m = pattern.len();
+    (0..text.len()).filter(|&p| p + m <= text.len() && (0..m).all(|k| text[p + k] == pattern[k])).collect()
+}
+
+/// A string, and for any two places how many symbols agree from there on.
+pub struct Common<'a, T> {
+    string: &'a [T],
+    agree: Vec<u16>,
+}
+
+impl<'a, T: Ord> Common<'a, T> {
+    pub fn new(string: &'a [T]) -> Self {
+        let n = string.len();
+        let mut agree = vec![0; (n + 1) * (n + 1)];
+        for i in (0..n).rev() {
+            for j in (0..n).rev() {
+                if string[i] == string[j] {
+                    agree[i * (n + 1) + j] = agree[(i + 1) * (n + 1) + j + 1] + 1;
+                }
+            }
+        }
+        Common { string, agree }
+    }
+
+    /// How the strings from i and from j, both up to `end`, compare at their first difference.
+    fn first_difference(&self, i: usize, j: usize, end: usize) -> Option<Ordering> {
+        let k = self.agree[i * (self.string.len() + 1) + j] as usize;
+        match i.max(j) + k < end {
+            true => Some(self.string[i + k].cmp(&self.string[j + k])),
+            false => None,
+        }
+    }
+
+    /// Where the standard factorization splits the Lyndon word from `start` to `end`: v is also its smallest proper suffix.
+    pub fn split(&self, start: usize, end: usize) -> usize {
+        let below = |i, j| self.first_difference(i, j, end).map_or(i > j, |order| order == Ordering::Less);
+        let least = (start + 1..end).fold(end - 1, |least, i| if below(i, least) { i } else { least });
+        if end - start <= SHORT {
+            assert_eq!(least, start + split_by_wording(&self.string[start..end]));
+        }
+        least
+    }
+
+    fn live_cuts(&self) -> Vec<usize> {
+        let m = self.string.len();
+        let passes = |c, d| self.first_difference(c, d, m) != Some(Ordering::Greater);
+        (1..m).filter(|&c| (1..m).all(|d| passes(c, d))).collect()
+    }
+}
