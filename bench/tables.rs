@@ -64,28 +64,7 @@ fn expand(table: &[u32], work: &mut [u32]) -> usize {
 
 /// Whether of the n ranks at the front the first alone is the mark.
 fn is_marked(work: &[u32], n: usize) -> bool {
-    let mut i = 1;
-    while i < n {
-        if at(work, i) == 0 {
-            return false;
-        }
-        i += 1;
-    }
-    at(work, 0) == 0
-}
-
-fn equal(x: &[u32], y: &[u32]) -> bool {
-    if x.len() != y.len() {
-        return false;
-    }
-    let mut i = 0;
-    while i < x.len() {
-        if at(x, i) != at(y, i) {
-            return false;
-        }
-        i += 1;
-    }
-    true
+    at(work, 0) == 0 && !part(work, 1, n).contains(&0)
 }
 
 fn chair_of(table: &[u32]) -> u16 {
@@ -98,7 +77,7 @@ fn load(table: &[u32], work: &mut [u32]) -> bool {
         return false;
     }
     let m = build_table(work, n, chair_of(table));
-    equal(part(work, TABLE, TABLE + m), table)
+    part(work, TABLE, TABLE + m) == table
 }
 
 /// Checks and loads a table; what `deliver` answers then.
@@ -145,30 +124,30 @@ fn spell(rules: &[u32], r: usize, result: &mut [u8]) -> usize {
     n + m
 }
 
-/// The text and the chair of a table.
-#[inline(never)]
-pub fn read(table: &[u32], work: &mut [u32], result: &mut [u8]) -> Answer {
+/// The text and the chair of a table; `write` writes the text that is loaded.
+fn text_of(table: &[u32], work: &mut [u32], result: &mut [u8], write: impl FnOnce(&[u32], usize, &mut [u8])) -> Answer {
     with_loaded(table, work, |work| {
         let n = text_length(work);
         if result.len() < n {
             return refused(9, n);
         }
-        spell(part(work, TABLE, TABLE + table.len()), table.len() / 2 - 1, result);
+        write(work, n, result);
         done(n, chair_of(table))
     })
 }
 
-/// The same by copying the ranks that the root spells.
+/// Reading by a walk over the rules.
+#[inline(never)]
+pub fn read(table: &[u32], work: &mut [u32], result: &mut [u8]) -> Answer {
+    text_of(table, work, result, |work, _, result| {
+        spell(part(work, TABLE, TABLE + table.len()), table.len() / 2 - 1, result);
+    })
+}
+
+/// Reading by a copy of the ranks that the root spells.
 #[inline(never)]
 pub fn copied(table: &[u32], work: &mut [u32], result: &mut [u8]) -> Answer {
-    with_loaded(table, work, |work| {
-        let n = text_length(work);
-        if result.len() < n {
-            return refused(9, n);
-        }
-        copy(work, 0, n, result);
-        done(n, chair_of(table))
-    })
+    text_of(table, work, result, |work, n, result| copy(work, 0, n, result))
 }
 
 /// The part of a table's text that begins at `start` and has `count` samples.

@@ -1,13 +1,18 @@
-"""Tests the Python module: the cases of a vector file, every refusal by its name, values out of range, threads. `binding.py FILE`."""
+"""Tests the Python module: the cases of a vector file, every refusal of every service, other values and types, threads. `binding.py FILE`."""
 
 import io
 import os
 import pickle
+import shutil
 import subprocess
 import sys
+import tempfile
 import unittest
+from array import array
 from concurrent.futures import ThreadPoolExecutor
+from contextlib import nullcontext
 from pathlib import Path
+from unittest.mock import patch
 
 MODULE = Path(__file__).resolve().parent.parent / "bindings" / "python"
 sys.path.insert(0, str(MODULE))
@@ -84,61 +89,135 @@ class Vectors(unittest.TestCase):
                         asked(case)
                     self.assertEqual((raised.exception.number, raised.exception.place), (int(want["no"]), int(want["place"])))
                 AGREED[case["call"]] = AGREED.get(case["call"], 0) + 1
+        self.assertEqual(sorted(AGREED), ["build", "check", "count", "cuts", "list", "part", "read"])
+
+
+class Refusals(unittest.TestCase):
+    """Each service refused by each number that concerns it, on the drive `aaaa` and the samples `aa`, with one thing changed."""
+
+    NAMES = [
+        "TextTooLong", "PatternEmpty", "PatternTooLong", "WorkTooShort", "TableLength", "BadWord", "NotATable", "RangePastEnd", "ResultTooShort",
+    ]
+    CONCERNED = {
+        "build": [1, 4, 9], "check": [4, 5, 6, 7], "read": [4, 5, 6, 7, 9], "extract": [4, 5, 6, 7, 8, 9], "count": [2, 3, 4, 5, 6, 7],
+        "locate": [2, 3, 4, 5, 6, 7, 9], "live_cuts": [2, 3, 9],
+    }
+    NEEDED = {"build": 8, "read": 4, "extract": 3, "locate": 3, "live_cuts": 1}
+    CHANGED = {
+        1: {"samples": bytearray(2048)},
+        2: {"samples": bytearray()},
+        3: {"samples": bytearray(2048)},
+        4: {"_WORK": 16_383},
+        5: {"table": []},
+        6: {"table": [0, 0xC0000000, 257, 0xC0000000]},
+        7: {"table": [98, 0xC0000000]},
+        8: {"start": 4, "length": 1},
+        9: {"_SAMPLES": 0, "_TABLE": 0},
+    }
+
+    def setUp(self):
+        self.usual = {"table": sirbolta.build(b"aaaa", 40), "samples": bytearray(b"aa"), "chair": 40, "start": 0, "length": 3}
+        self.answers = {
+            "build": [0, 0xC0000028, 98, 0xC0000000, 0x40000000, 0x80000001, 0x40000002, 0x80000001], "check": 6, "read": (b"aaaa", 40),
+            "extract": b"aaa", "count": 3, "locate": [0, 1, 2], "live_cuts": [1],
+        }
+
+    def ask(self, service, given):
+        arguments = {"build": ["samples", "chair"], "extract": ["table", "start", "length"], "live_cuts": ["samples"]}
+        arguments |= {"check": ["table"], "read": ["table"], "count": ["table", "samples"], "locate": ["table", "samples"]}
+        return getattr(sirbolta, service)(*[given[name] for name in arguments[service]])
+
+    def test_every_refusal_of_every_service(self):
+        for service, numbers in self.CONCERNED.items():
+            for number in numbers:
+                with self.subTest(service=service, number=number):
+                    refusal = getattr(sirbolta, self.NAMES[number - 1])
+                    given = self.usual | self.CHANGED[number]
+                    before = pickle.dumps(given)
+                    lent = {name: value for name, value in given.items() if name.startswith("_")}
+                    with patch.multiple(sirbolta, **lent) if lent else nullcontext(), self.assertRaises(refusal) as raised:
+                        self.ask(service, given)
+                    place = {6: 2, 9: self.NEEDED.get(service)}.get(number, 0)
+                    self.assertEqual((raised.exception.number, raised.exception.place), (number, place))
+                    self.assertEqual(pickle.dumps(given), before, "an input was written")
+                    self.assertEqual({name: self.ask(name, self.usual) for name in self.answers}, self.answers)
+
+    def test_what_does_not_concern_a_service(self):
+        for service, number in [("live_cuts", 4), ("check", 9), ("count", 9)]:
+            with self.subTest(service=service, number=number), patch.multiple(sirbolta, **self.CHANGED[number]):
+                self.assertEqual(self.ask(service, self.usual), self.answers[service])
+
+    def test_each_has_a_number_and_a_sentence(self):
+        for number, name in enumerate(self.NAMES, 1):
+            refusal = getattr(sirbolta, name)
+            self.assertIn(name, sirbolta.__all__)
+            self.assertEqual((refusal.number, refusal.__doc__), (number, refusal.reason))
+            self.assertRegex(str(refusal(31)), f"^refused {number}: [a-z][^{{}}]+$")
+        self.assertEqual(str(sirbolta.ResultTooShort(31)), "refused 9: the result slice is too short, 31 entries are needed")
+
+    def test_a_refusal_keeps_its_place(self):
+        refusal = pickle.loads(pickle.dumps(sirbolta.BadWord(31)))
+        self.assertEqual((refusal.number, refusal.place, str(refusal)), (6, 31, "refused 6: word 31 of the table is bad"))
 
 
 class Module(unittest.TestCase):
     def setUp(self):
         self.table = sirbolta.build(b"abab", 40)
 
-    def test_refusals_by_name(self):
-        refused = {
-            sirbolta.TextTooLong: lambda: sirbolta.build(bytes(2048), 0),
-            sirbolta.PatternEmpty: lambda: sirbolta.count(self.table, b""),
-            sirbolta.PatternTooLong: lambda: sirbolta.live_cuts(bytes(2048)),
-            sirbolta.TableLength: lambda: sirbolta.check([]),
-            sirbolta.BadWord: lambda: sirbolta.check([0, 0xC0000000, 257, 0xC0000000]),
-            sirbolta.NotATable: lambda: sirbolta.check([98, 0xC0000000]),
-            sirbolta.RangePastEnd: lambda: sirbolta.extract(self.table, 4, 2**64 - 1),
-        }
-        numbers = [sirbolta.WorkTooShort.number, sirbolta.ResultTooShort.number]
-        for refusal, call in refused.items():
-            with self.assertRaises(refusal) as raised:
-                call()
-            self.assertTrue(str(raised.exception).startswith(f"refused {refusal.number}: "))
-            numbers.append(refusal.number)
-        self.assertEqual(sorted(numbers), list(range(1, 10)))
-
-    def test_a_refusal_keeps_its_place(self):
-        refusal = pickle.loads(pickle.dumps(sirbolta.BadWord(31)))
-        self.assertEqual((refusal.number, refusal.place, str(refusal)), (6, 31, "refused 6: word 31 of the table is bad"))
-
     def test_values_out_of_range(self):
-        for call in [
-            lambda: sirbolta.build(b"", -1),
-            lambda: sirbolta.build(b"", 65_536),
-            lambda: sirbolta.check([2**32, 0]),
-            lambda: sirbolta.check([0, -1]),
-            lambda: sirbolta.extract(self.table, -1, 0),
-            lambda: sirbolta.extract(self.table, 0, 2**64),
+        for sentence, call in [
+            ("the chair number is negative", lambda: sirbolta.build(b"", -1)),
+            ("the chair number has more than 16 bits", lambda: sirbolta.build(b"", 65_536)),
+            ("the chair number has more than 16 bits", lambda: sirbolta.build(b"", 10**5000)),
+            ("a word of a table has more than 32 bits", lambda: sirbolta.check([2**32, 0])),
+            ("a word of a table is negative", lambda: sirbolta.check([0, -1])),
+            ("start is negative", lambda: sirbolta.extract(self.table, -1, 2)),
+            ("length is negative", lambda: sirbolta.extract(self.table, 2, -(10**5000))),
         ]:
-            self.assertRaises(ValueError, call)
+            with self.assertRaises(ValueError) as raised:
+                call()
+            self.assertEqual(str(raised.exception), sentence)
+
+    def test_start_and_length_of_any_size(self):
+        for start, length in [(5, 0), (4, 1), (0, 2**64), (2**64, 0), (2**64 - 1, 1), (1, 2**64 - 1), (2**64, 2**64), (10**5000, 0)]:
+            with self.subTest(bits=(start.bit_length(), length.bit_length())):
+                self.assertRaises(sirbolta.RangePastEnd, sirbolta.extract, self.table, start, length)
+        self.assertRaises(sirbolta.TableLength, sirbolta.extract, [], 2**64, 0)
+        self.assertEqual(sirbolta.extract(self.table, 4, 0), b"")
 
     def test_other_types(self):
-        for call in [
-            lambda: sirbolta.build("abab", 40),
-            lambda: sirbolta.build(4, 40),
-            lambda: sirbolta.build(b"abab", 40.0),
-            lambda: sirbolta.live_cuts([97, 98]),
-            lambda: sirbolta.check(b"abab"),
-            lambda: sirbolta.check("abab"),
-            lambda: sirbolta.check(None),
-        ]:
-            self.assertRaises(TypeError, call)
+        for table in ["", "abab", b"", b"abab", bytearray(), memoryview(b""), {}, dict.fromkeys(self.table), set(), frozenset(self.table), None, 4]:
+            sentence = f"a table is a sequence of 32-bit words, not {type(table).__name__}"
+            self.wrong_type(sentence, sirbolta.check, table)
+            self.wrong_type(sentence, sirbolta.read, table)
+            self.wrong_type(sentence, sirbolta.extract, table, 0, 0)
+            self.wrong_type(sentence, sirbolta.count, table, b"ab")
+            self.wrong_type(sentence, sirbolta.locate, table, b"ab")
+        for samples in ["", "abab", 4, [], [97, 98], None]:
+            sentence = f"samples are bytes, not {type(samples).__name__}"
+            self.wrong_type(sentence, sirbolta.build, samples, 40)
+            self.wrong_type(sentence, sirbolta.count, self.table, samples)
+            self.wrong_type(sentence, sirbolta.locate, self.table, samples)
+            self.wrong_type(sentence, sirbolta.live_cuts, samples)
+        self.wrong_type("samples are single bytes", sirbolta.build, memoryview(array("I")), 40)
+        for number in [True, False, 1.0, "1", None]:
+            kind = type(number).__name__
+            self.wrong_type(f"the chair number is a whole number, not {kind}", sirbolta.build, b"abab", number)
+            self.wrong_type(f"start is a whole number, not {kind}", sirbolta.extract, self.table, number, 0)
+            self.wrong_type(f"length is a whole number, not {kind}", sirbolta.extract, self.table, 0, number)
+            self.wrong_type(f"a word of a table is a whole number, not {kind}", sirbolta.check, [0, number])
+
+    def wrong_type(self, sentence, service, *arguments):
+        with self.subTest(service=service.__name__, arguments=arguments):
+            with self.assertRaises(TypeError) as raised:
+                service(*arguments)
+            self.assertEqual(str(raised.exception), sentence)
 
     def test_inputs_of_other_kinds(self):
         self.assertEqual(sirbolta.build(bytearray(b"abab"), 40), self.table)
         self.assertEqual(sirbolta.build(memoryview(b"xabab")[1:], 40), self.table)
         self.assertEqual(sirbolta.locate(tuple(self.table), bytearray(b"ab")), [0, 2])
+        self.assertEqual(sirbolta.check(array("I", self.table)), 6)
         self.assertEqual(sirbolta.check(word for word in self.table), 6)
 
     def test_threads(self):
@@ -149,13 +228,20 @@ class Module(unittest.TestCase):
             found = pool.map(sirbolta.locate, tables, [text[-3:] for text in texts])
         self.assertEqual(list(found), [[i for i in range(2045) if text[i : i + 3] == text[-3:]] for text in texts])
 
-    def test_library_by_its_name(self):
-        def imported(name):
-            environment = {**os.environ, "SIRBOLTA_LIBRARY": name, "PYTHONPATH": str(MODULE)}
-            return subprocess.run([sys.executable, "-B", "-c", "import sirbolta"], env=environment, capture_output=True, text=True)
+    def test_where_the_library_is(self):
+        def imported(module, **named):
+            environment = {name: value for name, value in os.environ.items() if name != "SIRBOLTA_LIBRARY"} | named | {"PYTHONPATH": str(module)}
+            return subprocess.run([sys.executable, "-B", "-c", "import sirbolta"], env=environment, capture_output=True, text=True).stderr
 
-        self.assertEqual(imported(sirbolta._library._name).returncode, 0)
-        self.assertIn("SIRBOLTA_LIBRARY", imported("nowhere.so").stderr)
+        library = sirbolta._library._name
+        self.assertEqual(imported(MODULE), "")
+        self.assertIn("ImportError: SIRBOLTA_LIBRARY names no file: nowhere.so", imported(MODULE, SIRBOLTA_LIBRARY="nowhere.so"))
+        with tempfile.TemporaryDirectory() as alone:
+            shutil.copy(MODULE / "sirbolta.py", alone)
+            self.assertIn("ImportError: no libsirbolta.so: run bindings/build", imported(alone))
+            self.assertEqual(imported(alone, SIRBOLTA_LIBRARY=library), "")
+            shutil.copy(library, Path(alone) / "libsirbolta.so")
+            self.assertEqual(imported(alone), "")
 
 
 if __name__ == "__main__":

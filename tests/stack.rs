@@ -1,5 +1,5 @@
-//! Checks, reads and searches the longest drives in a thread with a stack of 512 KiB: one whose Lyndon tree is deep to the left, one whose tree
-//! is deep to the right, and one that is neither. Prints how many calls were right.
+//! Every service on the longest drives, in a thread with a stack of 512 KiB: equal samples, whose Lyndon tree is deep to the left; two whose tree is
+//! deep to the right, of which the rising one has the largest table; and one that is neither. Prints how many calls were right.
 
 mod library;
 
@@ -16,8 +16,11 @@ fn calls() -> usize {
     let left = vec![b'a'; 2047];
     let mut right = left.clone();
     right[2046] = b'b';
+    let rising: Vec<u8> = (0..2047u32).map(|i| (i / 8) as u8).collect();
+    assert_eq!(table_of(&rising).len(), 4608);
     let neither = (0..2047u32).map(|i| (i * i * 40503 >> 7) as u8).collect();
-    [left, right, neither].iter().map(|text| check_and_read(text) + search(text, 1) + search(text, 2)).sum()
+    let served = |text: &Vec<u8>| check_and_read(text) + extract(text) + search(text, 1) + search(text, 2) + cut(text);
+    [left, right, rising, neither].iter().map(served).sum()
 }
 
 fn table_of(text: &[u8]) -> Vec<u32> {
@@ -43,6 +46,23 @@ fn check_and_read(text: &[u8]) -> usize {
     2
 }
 
+/// Extracts the whole drive, each half, the last sample and nothing at the end; one sample more is refused.
+fn extract(text: &[u8]) -> usize {
+    let table = table_of(text);
+    let mut work = vec![7u32; 16384];
+    let (w, n) = (work.as_mut_ptr(), work.len());
+    let parts = [(0, 2047), (0, 1023), (1023, 1024), (2046, 1), (2047, 0), (2047, 1)];
+    for (start, length) in parts {
+        let mut part = vec![7u8; length];
+        let reply = unsafe { sirbolta_extract(table.as_ptr(), table.len(), start, length, w, n, part.as_mut_ptr(), length) };
+        match text.get(start..start + length) {
+            Some(wanted) => assert_eq!((reply.number, reply.count as usize, &part[..]), (0, length, wanted)),
+            None => assert_eq!((reply.number, reply.count, part), (8, 0, vec![7; length])),
+        }
+    }
+    parts.len()
+}
+
 /// Counts and locates the drive's last samples, so many of them.
 fn search(text: &[u8], samples: usize) -> usize {
     let table = table_of(text);
@@ -57,4 +77,19 @@ fn search(text: &[u8], samples: usize) -> usize {
     assert_eq!((located.number, located.count as usize), (0, places.len()));
     assert_eq!(result, places);
     2
+}
+
+/// Lists the live cuts of the whole drive, taken as a pattern.
+fn cut(pattern: &[u8]) -> usize {
+    let m = pattern.len();
+    let passes = |c: usize, d: usize| {
+        let shorter = m - c.max(d);
+        pattern[c..c + shorter] <= pattern[d..d + shorter]
+    };
+    let live: Vec<u32> = (1..m).filter(|&c| (1..m).all(|d| passes(c, d))).map(|c| c as u32).collect();
+    let mut result = vec![7u32; live.len()];
+    let cut = unsafe { sirbolta_live_cuts(pattern.as_ptr(), m, result.as_mut_ptr(), result.len()) };
+    assert_eq!((cut.number, cut.count as usize), (0, live.len()));
+    assert_eq!(result, live);
+    1
 }

@@ -1,9 +1,11 @@
 //! The services of the proved library, for safe Rust: slices in, and a count or the refusal by its name out. It wants the static library that
-//! `bindings/build` makes: `rustc -L target/staticlib -l static=capi`.
+//! `bindings/build` makes: `rustc -L target/staticlib -l static=capi`. Every call is sound, since Rust's slices are what the library asks for:
+//! valid, aligned, and where they are lent for writing, apart from all others.
 //!
 //! The work slice needs `WORK` words, the result slice as many entries as the result has; what they held before plays no part. On success the result
-//! stands at the front of the result slice and the rest is as it was; after a refusal all of it is. The work slice is as it was after the
-//! refusals 1 to 6; after the others and success its first `WORK` words are 0. Reading and locating take up to 240 KiB of stack.
+//! stands at the front of the result slice and the rest is as it was; after a refusal all of it is as it was. The work slice is as it was after the
+//! refusals 1 to 6; after the others and success its first `WORK` words are 0 and the rest is as it was. Reading back and locating take up to
+//! 240 KiB of stack, every other service less than 2 KiB.
 #![allow(dead_code)]
 
 use std::fmt;
@@ -26,14 +28,14 @@ pub enum Refusal {
     PatternTooLong,
     WorkTooShort,
     TableLength,
-    /// The lowest index of a bad word.
     BadWord {
+        /// The lowest index of a bad word.
         at: usize,
     },
     NotATable,
     RangePastEnd,
-    /// How many entries the result has.
     ResultTooShort {
+        /// How many entries the result has.
         needed: usize,
     },
 }
@@ -51,7 +53,7 @@ pub fn build(text: &[u8], chair: u16, work: &mut [u32], result: &mut [u32]) -> R
     counted(unsafe { sirbolta_build(text.as_ptr(), text.len(), chair, w, n, r, m) })
 }
 
-/// Whether these words are the table of some text and chair number: answers how many rules it has.
+/// Answers how many rules the table has, if it is that of some text and chair number.
 pub fn check(table: &[u32], work: &mut [u32]) -> Result<usize, Refusal> {
     counted(unsafe { sirbolta_check(table.as_ptr(), table.len(), work.as_mut_ptr(), work.len()) })
 }

@@ -1,4 +1,9 @@
-//! Document 01 once more, slow and plain, for comparison: every definition is followed as it is worded. Nothing is shared with the library.
+//! Document 01 once more, slow and plain, for comparison. Nothing is shared with the library, and definitions are followed as they are worded,
+//! but for two:
+//!
+//! - Above 64 symbols `Common` stands in for the wording of the standard factorization and of live cuts, which takes up to the cube of the
+//!   length: for the longest drive of equal samples a second, and there are thousands of calls. Up to 64 symbols the two are compared.
+//! - Whether a table is that of some drive is not tried drive by drive: it can only be the one that its last rule spells.
 
 mod services;
 mod tables;

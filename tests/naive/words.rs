@@ -1,6 +1,4 @@
 //! Strings: which is smaller, Lyndon words, the standard factorization, live cuts and occurrences.
-//!
-//! A long string has `Common`, a table of how far any two of its suffixes agree. What it answers is compared with the wording on short strings.
 
 use std::cmp::Ordering;
 

@@ -11,8 +11,8 @@ use Rattle.definitions.specs.Words.{same}
 use Rattle.definitions.specs.Table.{rankOf}
 use Rattle.lists.specs.Bools.{contra}
 use Rattle.lists.specs.Parts.{part}
+use Rattle.lists.specs.Sameness.{agree, differ, ended}
 use Rattle.lists.specs.Strings.{same-eq, eq-same}
-use Rattle.slices.proofs.Sameness.{agree, differ, ended}
 
 -- the rank of the sample at i
 rank-at : (o : Order) (p : List ℕ) (i : ℕ) → i < length p → getD (map (rankOf o) p) i 0 ≡ rankOf o (getD p i 0)

@@ -1,6 +1,7 @@
 // The program `motif`: reads a motif and a drive, and prints how many rules the drive has and where the motif begins in it.
 // `answer` gives what is printed, from the bytes that are read; `main` reads and writes.
 use definitions::Answer;
+use libc::STDERR_FILENO;
 use libc::STDIN_FILENO;
 use libc::STDOUT_FILENO;
 use lines::put_decimal_lines;
@@ -17,10 +18,17 @@ ghost use Rattle.definitions.specs.Programs.{named, motifOf, driveOf, rulesName
 ghost use Rattle.lines.specs.Lines.{Small};
 ghost use Rattle.motif.specs.Steps.{driveStep, motifStep, Built, searchOutput};
 
-// Reads at most 4,096 bytes: a longer input is refused, and so many show it.
+// Reads at most 4,096 bytes: a longer input is refused, and so many show it. A read or a write that fails is said on standard error.
 fn main() {
     let mut input = io::buffer();
-    let n = io::read_full(STDIN_FILENO, &mut input);
+    let n = read_input(&mut input);
+    if 4096 < n {
+        io::write_all(
+            STDERR_FILENO,
+            b"motif: standard input was not read to its end\n",
+        );
+        return;
+    }
     let mut work = [0u32; 16384];
     let mut table = [0u32; 4608];
     let mut positions = [0u32; 2047];
@@ -32,7 +40,37 @@ fn main() {
         &mut positions,
         &mut out,
     );
-    io::write_all(STDOUT_FILENO, &out[0..m]);
+    if !io::write_all(STDOUT_FILENO, &out[0..m]) {
+        io::write_all(
+            STDERR_FILENO,
+            b"motif: the answer was not written to its end\n",
+        );
+    }
+}
+
+// Reads until the slice is full or the input ends, and answers how many bytes were read; 4,097 where a read fails.
+fn read_input(input: &mut [u8]) -> usize
+    requires { ⌜ length (now input) ≤ 4096 ⌝ }
+    ensures { λ n. ⌜ n ≤ 4097 ⌝ }
+{
+    let mut n = 0;
+    while n < input.len() {
+        let got = libc::read(STDIN_FILENO, &mut input[n..]);
+        let more = io::count(got, &input[n..]);
+        if more == 0 {
+            return ended(got, n);
+        }
+        n += more;
+    }
+    n
+}
+
+// How many bytes were read, n of them before a read that gave none; 4,097 where that failed.
+fn ended(got: isize, n: usize) -> usize
+    requires { ⌜ n ≤ 4096 ⌝ }
+    ensures { λ r. ⌜ r ≤ 4097 ⌝ }
+{
+    if got < 0 { 4097 } else { n }
 }
 
 // Writes what the program prints at the front of `out`, and answers how many bytes that is.

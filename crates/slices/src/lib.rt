@@ -35,21 +35,20 @@ pub fn copy(from: &[u32], to: &mut [u32])
     }
 }
 
-// Whether two slices hold the same words.
+// Whether two slices hold the same words. The loop goes to the end, so that the compiler may compare several words at once.
 pub fn equal<'a>(x: &'a [u32], y: &'a [u32]) -> bool
     ensures { λ r. ⌜ r ≡ same (now (x .entry)) (now (y .entry)) ⌝ }
 {
     if x.len() != y.len() {
         return false;
     }
+    let mut alike = true;
     let mut i = 0;
     while i < x.len() {
-        if x[i] != y[i] {
-            return false;
-        }
+        alike = alike & (x[i] == y[i]);
         i += 1;
     }
-    true
+    alike
 }
 
 // A word as an index.

@@ -38,19 +38,18 @@ fn rebuild(order: Order, table: &[u32], work: &mut [u32], n: usize) -> bool
     slices::equal(&work[TABLE..end], table)
 }
 
-// Whether of the n ranks at the front the first alone is the mark.
+// Whether of the n ranks at the front the first alone is the mark. The loop goes to the end, as that of `slices::equal` does.
 fn is_marked(work: &[u32], n: usize) -> bool
     requires { ⌜ (0 < n) × (n ≤ length (now work)) ⌝ }
     ensures { λ b. ⌜ (b ≡ true → Front (now (work .entry)) n) × (b ≡ false → Front (now (work .entry)) n → ⊥) ⌝ }
 {
+    let mut alone = work[0] == 0;
     let mut i = 1;
     while i < n {
-        if work[i] == 0 {
-            return false;
-        }
+        alone = alone & (0 < work[i]);
         i += 1;
     }
-    work[0] == 0
+    alone
 }
 
 // The chair number of a table.

@@ -1,18 +1,19 @@
--- `equal` decides sameness. The loop's invariant: the words passed agree, so the rest decides.
+-- `equal` decides sameness. The loop's invariant: the slices are the same where the words passed agree and the rest does.
 use mathlib.Core.Path.{_≡_, sym, _∙_, refl}
+use mathlib.Core.Bool.{_&&_}
 use Prim.Native.Nat.{_≤_, _-_}
 use native.Mathlib.Omega.{arith}
 use lib.ListN.{length, drop}
 use Rattle.definitions.specs.Words.{same}
-use Rattle.slices.proofs.Sameness.{agree, differ, ended, unequal}
+use Rattle.lists.specs.Sameness.{passed, all-passed, unequal}
 use Rattle.slices.proofs.equal.Statement.{statement}
 use Rattle.slices.proofs.equal.Tie as tie
 
 abbrev Inv-loop : tie.InvT-loop
-Inv-loop x y i₀ i = (i ≤ length x) × (length x ≡ length y) × (same x y ≡ same (drop i x) (drop i y))
+Inv-loop x y alike₀ i₀ alike i = (i ≤ length x) × (length x ≡ length y) × (same x y ≡ alike && same (drop i x) (drop i y))
 
 abbrev μ-loop : tie.MeasureT-loop
-μ-loop x y i₀ i = length x - i
+μ-loop x y alike₀ i₀ alike i = length x - i
 
 returns : tie.Need-returns Inv-loop μ-loop
 returns c = let a = c .before .args in sym (unequal (a .x .now) (a .y .now) (c .if1 .taken))
@@ -20,23 +21,17 @@ returns c = let a = c .before .args in sym (unequal (a .x .now) (a .y .now) (c .
 loop-holds : tie.Need-loop-holds Inv-loop μ-loop
 loop-holds c = (omega arith, c .if1 .left, refl)
 
-mul-if2 : tie.Need-mul-if2 Inv-loop μ-loop
-mul-if2 c = omega arith
+mul-alike : tie.Need-mul-alike Inv-loop μ-loop
+mul-alike c = omega arith
 
-shared-slice-read-if2 : tie.Need-shared-slice-read-if2 Inv-loop μ-loop
-shared-slice-read-if2 c = omega arith
+shared-slice-read-alike : tie.Need-shared-slice-read-alike Inv-loop μ-loop
+shared-slice-read-alike c = omega arith
 
-mul-if2-2 : tie.Need-mul-if2-2 Inv-loop μ-loop
-mul-if2-2 c = omega arith
+mul-alike-2 : tie.Need-mul-alike-2 Inv-loop μ-loop
+mul-alike-2 c = omega arith
 
-shared-slice-read-if2-2 : tie.Need-shared-slice-read-if2-2 Inv-loop μ-loop
-shared-slice-read-if2-2 c = omega arith
-
-returns-2 : tie.Need-returns-2 Inv-loop μ-loop
-returns-2 c =
-    let at = c .before .before .before .before in
-    let a = at .before .before .args in
-    sym (at .loop .inv .2 ∙ differ (a .x .now) (a .y .now) (at .loop .i) (omega arith) (omega arith) (c .if2 .taken))
+shared-slice-read-alike-2 : tie.Need-shared-slice-read-alike-2 Inv-loop μ-loop
+shared-slice-read-alike-2 c = omega arith
 
 add-i : tie.Need-add-i Inv-loop μ-loop
 add-i c = omega arith
@@ -46,15 +41,15 @@ loop-less c = omega arith
 
 loop-again : tie.Need-loop-again Inv-loop μ-loop
 loop-again c =
-    let at = c .before .before .before .before in
+    let at = c .before .before .before in
     let a = at .before .before .args in
-    (omega arith, at .loop .inv .1, at .loop .inv .2 ∙ agree (a .x .now) (a .y .now) (at .loop .i) (omega arith) (omega arith) (c .if2 .left))
+    (omega arith, at .loop .inv .1, at .loop .inv .2 ∙ passed (a .x .now) (a .y .now) (at .loop .i) (omega arith) (omega arith) (at .loop .alike))
 
-returns-3 : tie.Need-returns-3 Inv-loop μ-loop
-returns-3 c =
+returns-2 : tie.Need-returns-2 Inv-loop μ-loop
+returns-2 c =
     let at = c .before in
     let a = at .before .before .args in
-    sym (at .loop .inv .2 ∙ ended (a .x .now) (a .y .now) (at .loop .i) (omega arith) (omega arith))
+    sym (at .loop .inv .2 ∙ all-passed (a .x .now) (a .y .now) (at .loop .i) (omega arith) (omega arith) (at .loop .alike))
 
 pub equal-spec : {M : Type 1} → statement M
 equal-spec =
@@ -64,12 +59,11 @@ equal-spec =
     μ-loop
     returns
     loop-holds
-    mul-if2
-    shared-slice-read-if2
-    mul-if2-2
-    shared-slice-read-if2-2
-    returns-2
+    mul-alike
+    shared-slice-read-alike
+    mul-alike-2
+    shared-slice-read-alike-2
     add-i
     loop-less
     loop-again
-    returns-3)
+    returns-2)
