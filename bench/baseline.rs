@@ -1,10 +1,11 @@
 //! The library's algorithms in Rust, for comparison: unchecked indexes, no allocation, the same areas of the work slice.
 
-pub const FIRST: usize = 2048;
-pub const CLOSE: usize = 4096;
+pub const LONGEST: usize = 2048;
+pub const CLOSINGS: usize = 4096;
 pub const STACK: usize = 6144;
 pub const LINKS: usize = 8192;
 pub const TABLE: usize = 11520;
+const TABLE_END: usize = 16128;
 pub const WORK: usize = 16384;
 
 /// Number, place, count and chair, as the library answers them.
@@ -69,12 +70,12 @@ pub fn before(s: &[u32], i: usize, j: usize, k: usize) -> bool {
 pub fn merge(work: &mut [u32], n: usize, i: usize) -> usize {
     let mut j = i + 1;
     while j < n {
-        let k = at(work, FIRST + j) as usize;
+        let k = at(work, LONGEST + j) as usize;
         if !before(work, i, j, k) {
             return j;
         }
-        let closes = at(work, CLOSE + j + k - 1);
-        put(work, CLOSE + j + k - 1, closes + 1);
+        let closes = at(work, CLOSINGS + j + k - 1);
+        put(work, CLOSINGS + j + k - 1, closes + 1);
         j += k;
     }
     j
@@ -84,9 +85,9 @@ pub fn ends(work: &mut [u32], n: usize) {
     let mut i = n;
     while 0 < i {
         i -= 1;
-        put(work, CLOSE + i, 0);
+        put(work, CLOSINGS + i, 0);
         let j = merge(work, n, i);
-        put(work, FIRST + i, (j - i) as u32);
+        put(work, LONGEST + i, (j - i) as u32);
     }
 }
 
@@ -108,7 +109,7 @@ pub fn find(rules: &[u32], links: &[u32], n: usize, x: u32, y: u32) -> usize {
 }
 
 pub fn push(work: &mut [u32], n: usize, d: usize, x: u32, y: u32) -> usize {
-    let r = find(part(work, TABLE, 16128), part(work, LINKS, TABLE), n, x, y);
+    let r = find(part(work, TABLE, TABLE_END), part(work, LINKS, TABLE), n, x, y);
     if r < n {
         put(work, STACK + d, r as u32);
         return n;
@@ -127,7 +128,7 @@ pub fn number(work: &mut [u32], len: usize) -> usize {
     let (mut n, mut d, mut i) = (0, 0, 0);
     while i < len {
         let x = at(work, i);
-        let mut left = at(work, CLOSE + i);
+        let mut left = at(work, CLOSINGS + i);
         n = push(work, n, d, x, 3 << 30);
         d += 1;
         while 0 < left {

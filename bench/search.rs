@@ -7,8 +7,8 @@ use crate::tables::{value, with_loaded};
 const LENGTHS: usize = 2048;
 const PLACES: usize = 4352;
 const FOUND: usize = 6656;
-const LIVE: usize = 8960;
-const LIVE_END: usize = 11008;
+const FLAGS: usize = 8960;
+const FLAGS_END: usize = 11008;
 
 fn rank_of(byte: u8) -> u32 {
     byte as u32 + 1
@@ -145,7 +145,7 @@ fn matches(pattern: &[u8], ranks: &[u32]) -> bool {
 
 /// Whether cut c is live and the pattern stands at a place.
 fn is_cut(pattern: &[u8], work: &[u32], c: usize, place: usize) -> bool {
-    if at(work, LIVE + c) == 0 {
+    if at(work, FLAGS + c) == 0 {
         return false;
     }
     matches(pattern, part(work, place, place + pattern.len()))
@@ -197,7 +197,7 @@ fn count_rules(pattern: &[u8], work: &mut [u32], rules: usize) {
 /// Counts the occurrences of a pattern in the text that is loaded.
 fn count_loaded(pattern: &[u8], work: &mut [u32], rules: usize) -> usize {
     place_rules(work, rules);
-    flag_cuts(pattern, unsafe { work.get_unchecked_mut(LIVE..LIVE_END) });
+    flag_cuts(pattern, unsafe { work.get_unchecked_mut(FLAGS..FLAGS_END) });
     count_rules(pattern, work, rules);
     word(work, FOUND, rules - 1) / 4096
 }

@@ -106,7 +106,7 @@ pub fn check(table: &[u32], work: &mut [u32]) -> Answer {
 
 /// The number of samples of the text that is loaded.
 fn text_length(work: &[u32]) -> usize {
-    at(work, FIRST) as usize - 1
+    at(work, LONGEST) as usize - 1
 }
 
 /// The samples of rule r at the front: its left half, and in the rest of the slice its right half. Answers how many there are.

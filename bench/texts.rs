@@ -1,4 +1,4 @@
-//! Eight families of texts.
+//! Eight families of texts, and one that is slow to list the live cuts of.
 
 /// A small generator of numbers, the same in every run.
 struct Numbers(u64);
@@ -12,7 +12,7 @@ impl Numbers {
     }
 }
 
-pub const FAMILIES: [&str; 8] = [
+pub const FAMILIES: [&str; 9] = [
     "random bytes",
     "two symbols",
     "rests and ramps",
@@ -21,6 +21,7 @@ pub const FAMILIES: [&str; 8] = [
     "(a^k b)^2",
     "(a^31 b)^j",
     "Fibonacci",
+    "falling pairs",
 ];
 
 fn repeated(unit: &[u8], n: usize) -> Vec<u8> {
@@ -58,6 +59,12 @@ fn fibonacci(n: usize) -> Vec<u8> {
     b
 }
 
+/// 0, and then x y for every x below y, the largest pair first: Lyndon words of two samples that fall.
+fn falling(n: usize) -> Vec<u8> {
+    let pairs = (0..255u8).rev().flat_map(|x| (x + 1..=255).rev().map(move |y| [x, y]));
+    std::iter::once(0).chain(pairs.flatten()).take(n).collect()
+}
+
 /// The text of n samples of a family.
 pub fn text(family: usize, n: usize) -> Vec<u8> {
     let mut numbers = Numbers(88172645463325252);
@@ -69,6 +76,7 @@ pub fn text(family: usize, n: usize) -> Vec<u8> {
         4 => run(n - 1),
         5 => repeated(&run((n - 3) / 2), n),
         6 => repeated(&run(31), n),
-        _ => fibonacci(n),
+        7 => fibonacci(n),
+        _ => falling(n),
     }
 }

@@ -151,7 +151,7 @@ class Refusals(unittest.TestCase):
         for number, name in enumerate(self.NAMES, 1):
             refusal = getattr(sirbolta, name)
             self.assertIn(name, sirbolta.__all__)
-            self.assertEqual((refusal.number, refusal.__doc__), (number, refusal.reason))
+            self.assertEqual((refusal.number, refusal.__doc__), (number, refusal.reason.format(place="N")))
             self.assertRegex(str(refusal(31)), f"^refused {number}: [a-z][^{{}}]+$")
         self.assertEqual(str(sirbolta.ResultTooShort(31)), "refused 9: the result slice is too short, 31 entries are needed")
 
@@ -186,7 +186,7 @@ class Module(unittest.TestCase):
         self.assertEqual(sirbolta.extract(self.table, 4, 0), b"")
 
     def test_other_types(self):
-        for table in ["", "abab", b"", b"abab", bytearray(), memoryview(b""), {}, dict.fromkeys(self.table), set(), frozenset(self.table), None, 4]:
+        for table in ["", "abab", b"", b"abab", bytearray(), memoryview(b""), {}, dict.fromkeys(self.table), set(), frozenset(self.table), iter(self.table), None, 4]:
             sentence = f"a table is a sequence of 32-bit words, not {type(table).__name__}"
             self.wrong_type(sentence, sirbolta.check, table)
             self.wrong_type(sentence, sirbolta.read, table)
@@ -218,7 +218,14 @@ class Module(unittest.TestCase):
         self.assertEqual(sirbolta.build(memoryview(b"xabab")[1:], 40), self.table)
         self.assertEqual(sirbolta.locate(tuple(self.table), bytearray(b"ab")), [0, 2])
         self.assertEqual(sirbolta.check(array("I", self.table)), 6)
-        self.assertEqual(sirbolta.check(word for word in self.table), 6)
+
+    def test_largest(self):
+        text = bytes(i // 8 for i in range(2047))
+        table = sirbolta.build(text, 65_535)
+        self.assertEqual((len(table), sirbolta.check(table)), (4608, 2304))
+        self.assertEqual(sirbolta.read(table), (text, 65_535))
+        self.assertEqual(sirbolta.locate(sirbolta.build(bytes(2047), 0), b"\0"), list(range(2047)))
+        self.assertEqual(sirbolta.live_cuts(bytes(2047)), list(range(1, 2047)))
 
     def test_threads(self):
         texts = [bytes((i * j * j >> 3) % 7 for j in range(2047)) for i in range(1, 33)]

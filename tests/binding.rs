@@ -23,6 +23,7 @@ fn main() {
         }
     }
     every_refusal();
+    largest();
     println!("rust module: {agreed} cases agree, 9 refusals by name");
 }
 
@@ -47,6 +48,21 @@ fn outcome(answer: Result<Reading, Refusal>) -> Outcome {
         Ok(reading) => Outcome { number: 0, place: 0, count: reading.samples as u64, chair: reading.chair as u32 },
         Err(refusal) => Outcome { number: refusal.number(), place: refusal.place() as u64, count: 0, chair: 0 },
     }
+}
+
+/// The largest table, and the most positions, in slices of the lengths that the module names.
+fn largest() {
+    let mut work = vec![7; WORK];
+    let mut result = vec![7; TABLE];
+    let mut bytes = vec![7; SAMPLES];
+    let text: Vec<u8> = (0..2047u32).map(|i| (i / 8) as u8).collect();
+    assert_eq!(sirbolta::build(&text, 65535, &mut work, &mut result), Ok(4608));
+    assert_eq!(sirbolta::read(&result, &mut work, &mut bytes), Ok(Reading { samples: 2047, chair: 65535 }));
+    assert_eq!(bytes, text);
+    let words = sirbolta::build(&[0; 2047], 0, &mut work, &mut result).unwrap();
+    let mut positions = vec![7; SAMPLES];
+    assert_eq!(sirbolta::locate(&result[..words], &[0], &mut work, &mut positions), Ok(2047));
+    assert!(positions.iter().copied().eq(0..2047));
 }
 
 fn every_refusal() {

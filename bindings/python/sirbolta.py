@@ -14,7 +14,7 @@ from __future__ import annotations
 
 import ctypes
 import os
-from collections.abc import Iterable, Mapping, Set
+from collections.abc import Iterable, Iterator, Mapping, Set
 from operator import index
 from pathlib import Path
 from typing import SupportsIndex
@@ -39,7 +39,7 @@ class Refusal(Exception):
     reason: str = ""
 
     def __init_subclass__(cls) -> None:
-        cls.__doc__ = cls.__doc__ or cls.reason
+        cls.__doc__ = cls.__doc__ or cls.reason.format(place="N")
 
     def __init__(self, place: int = 0) -> None:
         super().__init__(place)
@@ -158,9 +158,9 @@ def _samples(value: Samples) -> bytes:
 
 
 def _words(table: Iterable[int]) -> ctypes.Array:
-    """The words of a table. Text, bytes, and what has no order are no table, not even an empty one."""
+    """The words of a table. Text, bytes, what has no order and what can be gone through only once are no table, not even an empty one."""
     try:
-        if isinstance(table, (str, Samples, Mapping, Set)):
+        if isinstance(table, (str, Samples, Mapping, Set, Iterator)):
             raise TypeError
         entries = iter(table)
     except TypeError:

@@ -1,5 +1,4 @@
-//! What each service answers and leaves in the slices, by the table of refusals: each is given if its condition is met and no lower-numbered one
-//! that concerns the service is.
+//! What each service answers and leaves in the slices: of the refusals that concern it, the lowest number that is met.
 
 use super::tables::{bad_word, drive_of, table_of};
 use super::words::{live_cuts, occurrences};

@@ -1,15 +1,15 @@
 // The lowest word of a table from anywhere that no table has at its place.
-use ends::layout::KIND_1;
+use layout::KIND;
 use slices::wide;
 ghost use mathlib.Core.Path.{_≡_};
 ghost use Prim.Native.Nat.{_*_, _/_};
 ghost use lib.ListN.{length};
 ghost use Rattle.definitions.specs.Words.{least};
-ghost use Rattle.definitions.specs.Table.{badFirst, badSecond, badWord};
+ghost use Rattle.definitions.specs.Table.{badFirst, badSecond, badWord, ruleCount};
 
 // The lowest index of a bad word, the table's length if there is none.
 pub fn bad_word(table: &[u32]) -> usize
-    requires { ⌜ length (now table) ≡ 2 * (length (now table) / 2) ⌝ }
+    requires { ⌜ length (now table) ≡ 2 * (ruleCount (now table)) ⌝ }
     ensures { λ r. ⌜ r ≡ least (badWord (now (table .entry))) (length (now (table .entry))) ⌝ }
 {
     let n = table.len() / 2;
@@ -32,8 +32,8 @@ pub fn bad_word(table: &[u32]) -> usize
 fn bad_first(r: usize, x: u32) -> bool
     ensures { λ b. ⌜ b ≡ badFirst r x ⌝ }
 {
-    let kind = x / KIND_1;
-    let number = x % KIND_1;
+    let kind = x / KIND;
+    let number = x % KIND;
     if kind == 0 {
         return 256 < number;
     }
@@ -47,16 +47,16 @@ fn bad_first(r: usize, x: u32) -> bool
 fn bad_second(r: usize, x: u32, y: u32) -> bool
     ensures { λ b. ⌜ b ≡ badSecond r x y ⌝ }
 {
-    let kind = x / KIND_1;
-    let number = y % KIND_1;
+    let kind = x / KIND;
+    let number = y % KIND;
     if kind == 1 {
-        if y / KIND_1 == 2 {
+        if y / KIND == 2 {
             return r <= wide(number);
         }
         return true;
     }
     if kind == 0 {
-        if y / KIND_1 == 3 {
+        if y / KIND == 3 {
             if r == 0 {
                 return 65535 < number;
             }

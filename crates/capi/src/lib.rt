@@ -1,7 +1,7 @@
 // The services for C, Rust and Python: the same promises, with the answer as a struct. A slice is a pointer and a length; slices overlap
 // neither each other nor the inputs, and word pointers are aligned: that is the caller's part.
-use replies::Reply;
-use replies::SearchReply;
+use definitions::Reply;
+use definitions::SearchReply;
 use replies::replied;
 use replies::replied_reading;
 use replies::replied_search;
@@ -9,8 +9,9 @@ ghost use mathlib.Core.Path.{_≡_};
 ghost use lib.ListN.{length};
 ghost use Rattle.definitions.specs.declared.Order.the-variants.{Unsigned};
 ghost use Rattle.definitions.specs.Services.{numbersOf, outcome, resultAfter, workAfter, buildService, checkService, readService, extractService, countService, locateService, cutsService};
-ghost use Rattle.replies.specs.Replies.{replyNumbers, searchNumbers};
+ghost use Rattle.definitions.specs.Replies.{replyNumbers, searchNumbers};
 
+// Builds the table of a text and a chair number: `index::build`.
 #[no_mangle]
 pub extern "C" fn sirbolta_build(
     text: &[u8],
@@ -25,6 +26,7 @@ pub extern "C" fn sirbolta_build(
     replied(index::build(text, chair, work, result))
 }
 
+// Checks a table: `index::check`.
 #[no_mangle]
 pub extern "C" fn sirbolta_check(table: &[u32], work: &mut [u32]) -> Reply
     ensures answer { λ r. ⌜ replyNumbers r ≡ numbersOf (outcome (checkService Unsigned (now (table .entry)) (length (now (work .entry))))) ⌝ }
@@ -33,6 +35,7 @@ pub extern "C" fn sirbolta_check(table: &[u32], work: &mut [u32]) -> Reply
     replied(index::check(table, work))
 }
 
+// Reads a table back, text and chair number: `index::read`.
 #[no_mangle]
 pub extern "C" fn sirbolta_read(table: &[u32], work: &mut [u32], result: &mut [u8]) -> Reply
     ensures answer { λ r. ⌜ replyNumbers r ≡ numbersOf (outcome (readService Unsigned (now (table .entry)) (length (now (work .entry))) (length (now (result .entry))))) ⌝ }
@@ -42,6 +45,7 @@ pub extern "C" fn sirbolta_read(table: &[u32], work: &mut [u32], result: &mut [u
     replied_reading(index::read(table, work, result))
 }
 
+// Reads a part of the text: `index::extract`.
 #[no_mangle]
 pub extern "C" fn sirbolta_extract(
     table: &[u32],
@@ -57,6 +61,7 @@ pub extern "C" fn sirbolta_extract(
     replied(index::extract(table, start, count, work, result))
 }
 
+// Counts the occurrences of a pattern: `index::count`.
 #[no_mangle]
 pub extern "C" fn sirbolta_count(table: &[u32], pattern: &[u8], work: &mut [u32]) -> SearchReply
     ensures answer { λ r. ⌜ searchNumbers r ≡ numbersOf (outcome (countService Unsigned (now (table .entry)) (now (pattern .entry)) (length (now (work .entry))))) ⌝ }
@@ -65,6 +70,7 @@ pub extern "C" fn sirbolta_count(table: &[u32], pattern: &[u8], work: &mut [u32]
     replied_search(index::count(table, pattern, work))
 }
 
+// Lists the occurrences of a pattern: `index::locate`.
 #[no_mangle]
 pub extern "C" fn sirbolta_locate(
     table: &[u32],
@@ -79,6 +85,7 @@ pub extern "C" fn sirbolta_locate(
     replied_search(index::locate(table, pattern, work, result))
 }
 
+// Lists the live cuts of a pattern: `index::live_cuts`.
 #[no_mangle]
 pub extern "C" fn sirbolta_live_cuts(pattern: &[u8], result: &mut [u32]) -> Reply
     ensures answer { λ r. ⌜ replyNumbers r ≡ numbersOf (outcome (cutsService Unsigned (now (pattern .entry)) (length (now (result .entry))))) ⌝ }

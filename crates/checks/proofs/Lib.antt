@@ -1,5 +1,5 @@
 pub mod Answers
-pub mod Decisions
+pub mod Outcomes
 pub mod Serving
 pub mod Fronts
 pub mod Delivering

@@ -10,9 +10,10 @@ use Rattle.definitions.specs.declared.Answer.{Answer}
 use Rattle.definitions.specs.declared.Answer.the-variants.{Done, Refused}
 use Rattle.definitions.specs.Words.{placed}
 use Rattle.definitions.specs.Services.{Outcome, refused, Check, Service, firstMet, outcome, resultAfter, workAfter, cleared}
+use Rattle.lists.specs.Decisions.{First, met, later, Passed, none, more, decide, first-decides, passed-all}
 use Rattle.checks.specs.Checks.{checked, answered, delivered}
 use Rattle.checks.proofs.Answers.{refusal}
-use Rattle.checks.proofs.Decisions.{First, met, later, Passed, none, more, first-decides, passed-all, refused-outcome, refused-result, refused-work, done-outcome, done-result, done-work}
+use Rattle.checks.proofs.Outcomes.{refused-outcome, refused-result, refused-work, done-outcome, done-result, done-work}
 
 -- ---- answers of several checks
 
@@ -45,30 +46,25 @@ delivered-none l old = refl
 
 -- an answer of several checks that refuses is that of one of them
 refused-some : (checks : List Check) (n a b : ℕ) → answered checks n ≡ Refused a b → (d : Check) × First d checks × (answered checks n ≡ Refused (d .number) (d .place))
-unfolding firstMet
-refused-some [] n a b e =
-    let z : _≡_ {A = ℕ} 0 1 = cc in
-    absurd (omega arith)
-refused-some (c ∷ checks) n a b e = go (λ q. refused-some checks n a b (rw q at e)) (c .met) refl
+refused-some checks n a b e = go (decide checks)
   where
-    go : (c .met ≡ false → (d : Check) × First d checks × (answered checks n ≡ Refused (d .number) (d .place))) → (m : Bool) → c .met ≡ m → (d : Check) × First d (c ∷ checks) × (answered (c ∷ checks) n ≡ Refused (d .number) (d .place))
-    go ih true q = (c, met q, rw q)
-    go ih false q =
-        let (d, f, g) = ih q in
-        (d, later c q f, rw q g)
+    go : ((d : Check) × First d checks) ⊎ Passed checks → (d : Check) × First d checks × (answered checks n ≡ Refused (d .number) (d .place))
+    go (inl (d, f)) = (d, f, first-decides d (λ c. Refused (c .number) (c .place)) (Done n) f)
+    go (inr p) =
+        let f : Done n ≡ Refused a b = sym (passed-all (λ c. Refused (c .number) (c .place)) (Done n) p) ∙ e in
+        let z : _≡_ {A = ℕ} 0 1 = cc in
+        absurd (omega arith)
 
 -- one that goes on has met none
 pub done-all : (checks : List Check) (n a : ℕ) → answered checks n ≡ Done a → Passed checks
-unfolding firstMet
-done-all [] n a e = none
-done-all (c ∷ checks) n a e = go (λ q. done-all checks n a (rw q at e)) (c .met) refl
+done-all checks n a e = go (decide checks)
   where
-    go : (c .met ≡ false → Passed checks) → (m : Bool) → c .met ≡ m → Passed (c ∷ checks)
-    go ih true q =
-        let f : Refused (c .number) (c .place) ≡ Done a = rw q at e in
+    go : ((d : Check) × First d checks) ⊎ Passed checks → Passed checks
+    go (inl (d, f)) =
+        let g : Refused (d .number) (d .place) ≡ Done a = sym (first-decides d (λ c. Refused (c .number) (c .place)) (Done n) f) ∙ e in
         let z : _≡_ {A = ℕ} 0 1 = cc in
         absurd (omega arith)
-    go ih false q = more c q (ih q)
+    go (inr p) = p
 
 -- and hands on what was to be handed on
 pub done-value : (checks : List Check) (n a : ℕ) → answered checks n ≡ Done a → a ≡ n
@@ -76,16 +72,6 @@ done-value checks n a e =
     let f : Done n ≡ Done a = sym (passed-all (λ c. Refused (c .number) (c .place)) (Done n) (done-all checks n a e)) ∙ e in
     let g : n ≡ a = cc in
     sym g
-
--- one of the checks is the first that is met, or none is
-decide : (checks : List Check) → ((d : Check) × First d checks) ⊎ Passed checks
-decide [] = inr none
-decide (c ∷ checks) = go (decide checks) (c .met) refl
-  where
-    go : ((d : Check) × First d checks) ⊎ Passed checks → (m : Bool) → c .met ≡ m → ((d : Check) × First d (c ∷ checks)) ⊎ Passed (c ∷ checks)
-    go ih true q = inl (c, met q)
-    go (inl (d, f)) false q = inl (d, later c q f)
-    go (inr p) false q = inr (more c q p)
 
 -- ---- more checks behind
 

@@ -1,15 +1,17 @@
 // What the services share: the checks, each a small function that answers its refusal or goes on with what was accepted; and clearing the work slice afterwards.
 use definitions::Answer;
 use definitions::Reading;
-use ends::layout::WORK;
+use layout::WORK;
 ghost use mathlib.Core.Path.{_≡_};
 ghost use mathlib.Core.Bool.{cond, not};
 ghost use Prim.Native.Nat.{_≤_};
 ghost use lib.ListN.{length};
 ghost use Rattle.definitions.specs.Services.{cleared, textTooLong, patternChecks, workTooShort, resultTooShort, tableLength, rangePastEnd};
 ghost use Rattle.definitions.specs.declared.Answer.the-variants.{Done, Refused};
+ghost use Rattle.layout.specs.Layout.{WORK};
 ghost use Rattle.checks.specs.Checks.{checked, answered, readingOf};
 
+// Refusal 1, or the number of samples.
 pub fn text_fits(text: &[u8]) -> Answer
     ensures { λ r. ⌜ r ≡ checked (textTooLong (now (text .entry))) (length (now (text .entry))) ⌝ }
 {
@@ -20,7 +22,7 @@ pub fn text_fits(text: &[u8]) -> Answer
     }
 }
 
-// Refusals 2 and 3.
+// Refusals 2 and 3, or the number of samples.
 pub fn pattern_fits(pattern: &[u8]) -> Answer
     ensures { λ r. ⌜ r ≡ answered (patternChecks (now (pattern .entry))) (length (now (pattern .entry))) ⌝ }
 {
@@ -33,6 +35,7 @@ pub fn pattern_fits(pattern: &[u8]) -> Answer
     Answer::Done(pattern.len())
 }
 
+// Refusal 4 of a work slice of n words, or n.
 pub fn work_fits(n: usize) -> Answer
     ensures { λ r. ⌜ r ≡ checked (workTooShort n) n ⌝ }
 {
@@ -43,6 +46,7 @@ pub fn work_fits(n: usize) -> Answer
     }
 }
 
+// Refusal 9 of a result slice of n entries, or the entries needed.
 pub fn result_fits(needed: usize, n: usize) -> Answer
     ensures { λ r. ⌜ r ≡ checked (resultTooShort needed n) needed ⌝ }
 {
@@ -53,6 +57,7 @@ pub fn result_fits(needed: usize, n: usize) -> Answer
     }
 }
 
+// Refusal 8 of so many samples from `start` on in a text of n samples, or how many they are.
 pub fn range_fits(n: usize, start: usize, count: usize) -> Answer
     ensures { λ r. ⌜ r ≡ checked (rangePastEnd n start count) count ⌝ }
 {
@@ -65,6 +70,7 @@ pub fn range_fits(n: usize, start: usize, count: usize) -> Answer
     Answer::Done(count)
 }
 
+// Refusal 5 of a table of n words, or n.
 pub fn length_fits(n: usize) -> Answer
     ensures { λ r. ⌜ r ≡ checked (tableLength n) n ⌝ }
 {
@@ -80,7 +86,7 @@ pub fn length_fits(n: usize) -> Answer
     Answer::Done(n)
 }
 
-// Whether a table is accepted, as an answer.
+// Refusal 7 of a table that is not accepted, or its number of rules.
 pub fn accepts(accepted: bool, rules: usize) -> Answer
     ensures { λ r. ⌜ r ≡ cond (not accepted) (Refused 7 0) (Done rules) ⌝ }
 {
@@ -103,7 +109,7 @@ pub fn reading(a: Answer, chair: u16) -> Reading
 
 // Clears the words that the services use.
 pub fn clear_front(work: &mut [u32])
-    requires { ⌜ 16384 ≤ length (now work) ⌝ }
+    requires { ⌜ WORK ≤ length (now work) ⌝ }
     ensures { λ _. ⌜ now (work .exit) ≡ cleared (now (work .entry)) ⌝ }
 {
     slices::clear(&mut work[0..WORK]);

@@ -1,6 +1,6 @@
 -- Comparing two strings symbol by symbol: while symbols agree, the rest decides; at a difference it does, and at an end the lengths do.
 use mathlib.Core.Path.{_≡_, refl, _∙_, ap}
-use mathlib.Core.Bool.{Bool, true, false, _&&_, _||_}
+use mathlib.Core.Bool.{false, _&&_, _||_, or-false}
 use mathlib.Core.List.{List, [], _∷_}
 use Prim.Native.Nat.{ℕ, suc, _+_, _-_, _≤_, _<_, min}
 use native.Mathlib.Omega.{arith}
@@ -25,11 +25,7 @@ module _ (x y : List ℕ) (i : ℕ) (hx : i < length x) (hy : i < length y) wher
       ∙ rw (le-ltb (getD x i 0) (getD y i 0) (omega arith), eq-eqb (getD x i 0) (getD y i 0) e, add-one)
 
   pub differ : (getD x i 0 ≡ getD y i 0 → ⊥) → lexlt (drop i x) (drop i y) ≡ ltb (getD x i 0) (getD y i 0)
-  differ n = heads ∙ rw (ne-eqb (getD x i 0) (getD y i 0) n) (none (ltb (getD x i 0) (getD y i 0)))
-    where
-      none : (b : Bool) → b || false ≡ b
-      none true = refl
-      none false = refl
+  differ n = heads ∙ rw (ne-eqb (getD x i 0) (getD y i 0) n) (or-false (ltb (getD x i 0) (getD y i 0)))
 
 -- at an end of either the shorter is smaller
 pub ended : (x y : List ℕ) (i : ℕ) → i ≡ min (length x) (length y) → lexlt (drop i x) (drop i y) ≡ ltb (length x) (length y)

@@ -1,12 +1,12 @@
 -- Laws of `Dif`, smaller at the first difference: a strict order, kept by fronts and by what follows.
--- A tail is not greater at a difference than another exactly when the other is not smaller at one (`not-greater`).
-use mathlib.Core.Path.{_≡_, refl, sym, _∙_, subst}
+-- Where a tail is not greater at a difference than another, the other is not smaller at one (`not-smaller`).
+use mathlib.Core.Path.{_≡_, refl, _∙_, subst}
 use mathlib.Core.Logic.{_⊎_, inl, inr}
 use mathlib.Core.List.{List, [], _∷_, _++_, append-nil}
 use Prim.Native.Nat.{ℕ, zero, suc, _≤_, _<_}
 use native.Mathlib.Omega.{arith}
 use lib.ListN.{length, take, drop, take-append-drop}
-use Rattle.lyndon.specs.Lexical.{Dif, Compare, equal, prefix, extends, smaller, greater, compared, dif-append, dif-lt, lt-irrefl, lt-asym}
+use Rattle.lyndon.specs.Lexical.{Dif, dif-append, dif-lt, lt-irrefl, lt-asym}
 use Rattle.lyndon.specs.Cuts.{NotGreaterAtDifference}
 
 -- ---- a strict order
@@ -14,7 +14,7 @@ use Rattle.lyndon.specs.Cuts.{NotGreaterAtDifference}
 pub dif-irrefl : (x : List ℕ) → Dif x x → ⊥
 dif-irrefl x h = lt-irrefl x (dif-lt x x h)
 
-pub dif-asym : (x y : List ℕ) → Dif x y → Dif y x → ⊥
+dif-asym : (x y : List ℕ) → Dif x y → Dif y x → ⊥
 dif-asym x y h k = lt-asym x y (dif-lt x y h) (dif-lt y x k)
 
 pub dif-trans : (x y z : List ℕ) → Dif x y → Dif y z → Dif x z
@@ -79,13 +79,3 @@ pub not-smaller : (x y : List ℕ) → NotGreaterAtDifference x y → Dif y x �
 not-smaller x y (inl (r, e)) d = dif-extended x r (subst (λ (t : List ℕ). Dif t x) e d)
 not-smaller x y (inr (inl (r, e))) d = dif-extends y r (subst (λ (t : List ℕ). Dif y t) e d)
 not-smaller x y (inr (inr l)) d = dif-asym x y l d
-
-pub not-greater : (x y : List ℕ) → (Dif y x → ⊥) → NotGreaterAtDifference x y
-not-greater x y h = go (compared x y)
-  where
-    go : Compare x y → NotGreaterAtDifference x y
-    go (equal e) = inl ([], sym e ∙ sym (append-nil x))
-    go (prefix r n e) = inl (r, e)
-    go (extends r n e) = inr (inl (r, e))
-    go (smaller d) = inr (inr d)
-    go (greater d) = absurd (h d)

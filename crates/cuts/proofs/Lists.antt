@@ -32,7 +32,7 @@ pub passed-length : (o : Order) (p : List ℕ) (start : ℕ) → length (passed 
 passed-length o p start = below-length (isLive (map (rankOf o) p)) start
 
 -- the pattern has at least those
-pub passed-most : (o : Order) (p : List ℕ) (start : ℕ) → start ≤ length p → length (passed o p start) ≤ length (patternCuts o p)
+passed-most : (o : Order) (p : List ℕ) (start : ℕ) → start ≤ length p → length (passed o p start) ≤ length (patternCuts o p)
 unfolding patternCuts liveCuts
 passed-most o p start h = omega (arith, simp length-append at (ap length (split (length p - start) whole)))
   where

@@ -6,8 +6,9 @@ use Prim.Native.Nat.{ℕ, zero, suc, _+_, _-_, _≤_, _<_}
 use native.Mathlib.Omega.{arith}
 use native.Mathlib.Nat.{add-suc, add-zero}
 use lib.ListN.{length, take, drop, getD, length-take, length-drop, take-append-drop}
-use lib.Seq.{take-suc, drop-cons, split-at, take-take, take-add, drop-drop, getD-take, getD-drop, take-all, drop-append-le, length-take-le, drop-at}
+use lib.Seq.{take-suc, drop-cons, split-at, take-take, drop-drop, getD-take, getD-drop, take-all, drop-append-le, length-take-le}
 use Rattle.lists.specs.Numbers.{split-lt}
+use Rattle.lists.specs.Parts.{drop-take}
 use Rattle.lyndon.specs.Lexical.{Dif, dif-append}
 use Rattle.cuts.specs.Runs.{Least, Repeats}
 use Rattle.cuts.proofs.Differences.{dif-behind, dif-raise}
@@ -29,9 +30,6 @@ least-tail s n h l d p q =
 
     tail : drop d (take n s) ++ drop n s ≡ drop d s
     tail = sym (drop-append-le d (take n s) (drop n s) (omega (arith, size))) ∙ ap (drop d) (take-append-drop n s)
-
-drop-front : (p k : ℕ) (l : List ℕ) → p ≤ length l → drop p (take (p + k) l) ≡ take k (drop p l)
-drop-front p k l h = ap (drop p) (take-add p k l) ∙ drop-at (take p l) (take k (drop p l)) p (length-take-le p l h)
 
 module _ (s : List ℕ) (period more : ℕ) (run : Repeats s period more) where
   -- all of s: what the run repeats, and the rest from the period on
@@ -102,7 +100,7 @@ module _ (s : List ℕ) (period more : ℕ) (run : Repeats s period more) where
       ends : drop period word ≡ take more s ++ (b ∷ [])
       ends =
           ap (λ (n : ℕ). drop period (take n s)) (sym (add-suc period more))
-          ∙ drop-front period (suc more) s (omega arith)
+          ∙ drop-take period (suc more) s
           ∙ take-suc (drop period s) more 0 (simp length-drop (omega arith))
           ∙ ap (λ (x : List ℕ). x ++ (getD (drop period s) more 0 ∷ [])) (run .again)
           ∙ ap (λ (x : ℕ). take more s ++ (x ∷ [])) (getD-drop period s more 0)
@@ -145,7 +143,7 @@ module _ (s : List ℕ) (period more : ℕ) (run : Repeats s period more) where
         filled = run .filled;
         inside = simp length-drop (omega (arith, run .inside));
         least = subst (λ (x : List ℕ). Least x) (sym front) (run .least);
-        again = sym (drop-front period left (drop period s) (simp length-drop (omega arith))) ∙ ap (drop period) fronts ∙ drop-front period left s (omega arith);
+        again = sym (drop-take period left (drop period s)) ∙ ap (drop period) fronts ∙ drop-take period left s;
       }
     where
       fronts : take (period + left) (drop period s) ≡ take (period + left) s

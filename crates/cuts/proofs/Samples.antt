@@ -1,9 +1,9 @@
 -- The scan on samples: a run begins, and goes on by the ranks of two samples at a time. Each outcome says what becomes of it.
 -- What a step of the scan passes is a matter of whether the run reaches the pattern's end (`moved-one`, `moved-none`).
-use mathlib.Core.Path.{_≡_, refl, sym, _∙_, subst}
+use mathlib.Core.Path.{_≡_, sym, _∙_, subst}
 use mathlib.Core.Bool.{true, false}
 use mathlib.Core.List.{List, [], _∷_, _++_, map}
-use Prim.Native.Nat.{ℕ, zero, suc, _+_, _-_, _≤_, _<_}
+use Prim.Native.Nat.{ℕ, _+_, _-_, _≤_, _<_}
 use native.Mathlib.Omega.{arith}
 use lib.ListN.{length, getD, length-map}
 use Rattle.definitions.specs.declared.Order.{Order}
@@ -11,6 +11,7 @@ use Rattle.definitions.specs.Words.{below}
 use Rattle.definitions.specs.Table.{rankOf}
 use Rattle.definitions.specs.Occurrences.{isLive}
 use Rattle.lists.specs.Numbers.{split-lt}
+use Rattle.lists.specs.Members.{map-at}
 use Rattle.cuts.specs.Runs.{atEnd, ahead, Running, Stopped, Reached, Moved}
 use Rattle.cuts.proofs.Scan.{scan-first, scan-equal, scan-greater, scan-left, scan-extended}
 
@@ -18,20 +19,14 @@ use Rattle.cuts.proofs.Scan.{scan-first, scan-equal, scan-greater, scan
 pub samples-first : (o : Order) (p : List ℕ) (start : ℕ) → start < length p → Running (map (rankOf o) p) start start (start + 1)
 samples-first o p start h = scan-first (map (rankOf o) p) start (omega (arith, length-map p (rankOf o)))
 
--- the rank at a place
-pub rank-at : (f : ℕ → ℕ) (l : List ℕ) (i : ℕ) → i < length l → getD (map f l) i 0 ≡ f (getD l i 0)
-rank-at f [] i h = absurd (omega arith)
-rank-at f (a ∷ l) zero h = refl
-rank-at f (a ∷ l) (suc i) h = rank-at f l i (omega arith)
-
 -- the samples at `back` and `end` have the ranks a and b
 module _ (o : Order) (p : List ℕ) (start back end : ℕ) (r : Running (map (rankOf o) p) start back end) (h : end < length p)
     (a b : ℕ) (ea : a ≡ rankOf o (getD p back 0)) (eb : b ≡ rankOf o (getD p end 0)) where
   beside : getD (map (rankOf o) p) back 0 ≡ a
-  beside = rank-at (rankOf o) p back (omega (arith, r .high)) ∙ sym ea
+  beside = map-at (rankOf o) p back (omega (arith, r .high)) ∙ sym ea
 
   last : getD (map (rankOf o) p) end 0 ≡ b
-  last = rank-at (rankOf o) p end h ∙ sym eb
+  last = map-at (rankOf o) p end h ∙ sym eb
 
   inside : end < length (map (rankOf o) p)
   inside = omega (arith, length-map p (rankOf o))

@@ -15,9 +15,9 @@ use Rattle.definitions.specs.Occurrences.{isLive, liveCuts}
 use Rattle.lists.specs.Bools.{contra, and-left, and-right, and-intro, not-so}
 use Rattle.lists.specs.Numbers.{split-le, split-lt, below-in, below-lt, below-stop, below-none}
 use Rattle.lyndon.specs.Lexical.{Dif}
-use Rattle.lyndon.specs.Cuts.{Live, live-cut}
+use Rattle.lyndon.specs.Cuts.{Live, live-cut, not-greater}
 use Rattle.cuts.specs.Runs.{atEnd, Repeats, Running, Stopped, Best, Reached, Moved}
-use Rattle.cuts.proofs.Differences.{dif-irrefl, not-smaller, not-greater}
+use Rattle.cuts.proofs.Differences.{dif-irrefl, not-smaller}
 use Rattle.cuts.proofs.Runs.{run-first, run-equal, run-greater, run-broken, run-ended, run-behind}
 use Rattle.cuts.proofs.Starts.{inner, broken-first, broken-rest, ended-first, ended-rest}
 

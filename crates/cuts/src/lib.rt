@@ -2,10 +2,10 @@
 //
 // Duval's factorization of the pattern from sample 1 on. A run is a Lyndon word, whole copies of it, and a front of it, scanned as far as
 // it goes. Then it is left copy by copy: no cut inside a copy is live but, where the run reaches the pattern's end, the copy's start.
-// The front is scanned again. Comparisons and copies together are fewer than two a sample; equal samples, alone or in falling blocks, cost
-// most. No scratch memory.
+// The front is scanned again. Comparisons and copies together are fewer than two a sample; Lyndon words of two samples that fall, which
+// begin a run with every second sample, are the slowest known. No scratch memory.
 use definitions::Order;
-use ends::rank_of;
+use ranks::rank_of;
 ghost use mathlib.Core.Path.{_≡_};
 ghost use mathlib.Core.Bool.{true, false};
 ghost use mathlib.Core.List.{map};

@@ -3,5 +3,6 @@ pub mod Grammar
 pub mod Table
 pub mod Occurrences
 pub mod Services
+pub mod Replies
 pub mod Programs
 pub mod Samples

@@ -6,7 +6,7 @@ use mathlib.Core.List.{List, [], _∷_, _++_}
 use lib.ListN.{length}
 use lib.Dec.{ltb, eqb}
 use Rattle.definitions.specs.declared.Order.{Order}
-use Rattle.definitions.specs.Table.{tableOf}
+use Rattle.definitions.specs.Table.{tableOf, ruleCount}
 use Rattle.definitions.specs.Occurrences.{occurrences}
 use Rattle.definitions.specs.Services.{Check, check, firstMet, textTooLong, patternChecks}
 
@@ -82,4 +82,4 @@ motifOutput o input =
     let motif = motifOf input in
     let drive = driveOf input in
     printed (inputTooLong input ∷ textTooLong drive ∷ patternChecks motif)
-    (named rulesName (length (tableOf o drive 0) / 2) ++ foundLines (occurrences motif drive))
+    (named rulesName (ruleCount (tableOf o drive 0)) ++ foundLines (occurrences motif drive))

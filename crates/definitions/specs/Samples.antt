@@ -11,11 +11,15 @@ use Rattle.definitions.specs.declared.Answer.{Answer}
 use Rattle.definitions.specs.declared.Reading.{Reading}
 use Rattle.definitions.specs.declared.Reading.the-variants as reading
 use Rattle.definitions.specs.declared.Answer.the-variants.{Done, Refused}
+use Rattle.definitions.specs.declared.Search.{Search}
+use Rattle.definitions.specs.declared.Reply.{Reply}
+use Rattle.definitions.specs.declared.SearchReply.{SearchReply}
 use Rattle.definitions.specs.Words.{every, below, least, placed, same, begins, lexlt, lyndon, cutOf}
 use Rattle.definitions.specs.Grammar.{leftOf, rightOf, word, split, lyndonTree, indexOf, meet, visit, order, ruleOf, rulesOf}
 use Rattle.definitions.specs.Table.{rankOf, byteOf, numberOfRank, rankOfNumber, marked, wordOf, kindOf, numberOf, ruleWords, words, tableOf, badFirst, badSecond, badWord, stringOf, strings, ruleString, isPair, leftHalf, rightHalf, spelled, textOf, chairOf, isDrive, isChair, isTable}
 use Rattle.definitions.specs.Occurrences.{occurrences, notGreaterAtDifference, isLive, liveCuts, patternCuts, straddles, straddling, cutIn, cutAt}
-use Rattle.definitions.specs.Services.{Outcome, numbersOf, readingOutcome, Service, firstMet, outcome, outcomeOf, resultAfter, cleared, workAfter, tableChecks, patternChecks, buildService, checkService, readService, extractService, countService, locateService, cutsService}
+use Rattle.definitions.specs.Services.{Numbers, Outcome, numbersOf, readingOutcome, searchOutcome, Service, firstMet, outcome, outcomeOf, resultAfter, cleared, workAfter, tableChecks, patternChecks, buildService, checkService, readService, extractService, countService, locateService, cutsService}
+use Rattle.definitions.specs.Replies.{replyNumbers, searchNumbers}
 use Rattle.definitions.specs.Programs.{digits, digitCount, decimal, line, named, decimalLines, refusedLine, printed, motifOf, driveOf, foundLines, motifOutput}
 
 abbrev pub a : ℕ
@@ -72,14 +76,21 @@ pub data Sample : Type 0 where
   answers : Answer → ℕ → ℕ → ℕ → Sample
   -- the same of an answer to reading, with the chair number
   reads : Reading → ℕ → ℕ → ℕ → ℕ → Sample
+  -- the same of an answer to counting or locating, and of the replies to C
+  searches : Search → ℕ → ℕ → ℕ → Sample
+  replies : Reply → ℕ → ℕ → ℕ → ℕ → Sample
+  found : SearchReply → ℕ → ℕ → ℕ → ℕ → Sample
   -- the number in decimal
   spells : ℕ → List ℕ → Sample
   -- the input makes the program `motif` print this
   prints : List ℕ → List ℕ → Sample
 
--- an outcome's parts
+-- number, place, count and chair number, of an outcome too
+unfoldable pub four : Numbers → List ℕ
+four n = n .number ∷ n .place ∷ n .count ∷ n .chair ∷ []
+
 unfoldable pub parts : Outcome → List ℕ
-parts r = let n = numbersOf r in n .number ∷ n .place ∷ n .count ∷ n .chair ∷ []
+parts r = four (numbersOf r)
 
 unfoldable pub holds : Sample → Bool
 holds (rules text n) =
@@ -103,6 +114,9 @@ holds (clears s b) =
     eqb (length w) 16385 && (eqb (getD w 0 7) (cond b 0 7) && (eqb (getD w 16383 7) (cond b 0 7) && eqb (getD w 16384 7) 7))
 holds (answers r number place count) = same (parts (outcomeOf r)) (number ∷ place ∷ count ∷ 0 ∷ [])
 holds (reads r number place count chair) = same (parts (readingOutcome r)) (number ∷ place ∷ count ∷ chair ∷ [])
+holds (searches s number place count) = same (parts (searchOutcome s)) (number ∷ place ∷ count ∷ 0 ∷ [])
+holds (replies r number place count chair) = same (four (replyNumbers r)) (number ∷ place ∷ count ∷ chair ∷ [])
+holds (found r number place count chair) = same (four (searchNumbers r)) (number ∷ place ∷ count ∷ chair ∷ [])
 holds (spells n bytes) = same (decimal n) bytes
 holds (prints input output) = same (motifOutput Unsigned input) output
 
@@ -133,6 +147,8 @@ samples =
     ∷ cuts (a ∷ a ∷ b ∷ a ∷ []) (1 ∷ 3 ∷ [])
     ∷ cuts (a ∷ a ∷ a ∷ []) (1 ∷ 2 ∷ [])
     ∷ cuts (a ∷ []) []
+    ∷ cuts (97 ∷ 200 ∷ 100 ∷ []) (2 ∷ [])
+    ∷ rules (255 ∷ 0 ∷ []) 5
     ∷ joins (a ∷ a ∷ b ∷ b ∷ []) 5 (a ∷ a ∷ b ∷ []) (0 ∷ [])
     ∷ joins (a ∷ b ∷ b ∷ b ∷ []) 5 (b ∷ b ∷ b ∷ []) (1 ∷ [])
     ∷ joins (a ∷ b ∷ b ∷ b ∷ []) 5 (b ∷ []) []
@@ -142,24 +158,41 @@ samples =
     ∷ ends (checkService Unsigned ofAbab 16384) 0 0 6 0
     ∷ ends (checkService Unsigned [] 16383) 4 0 0 0
     ∷ ends (checkService Unsigned (drop 1 ofAbab) 16384) 5 0 0 0
+    ∷ ends (checkService Unsigned (drop 3 ofAbab) 16384) 5 0 0 0
     ∷ ends (checkService Unsigned (drop 2 ofAbab) 16384) 6 5 0 0
     ∷ ends (checkService Unsigned (0x101 ∷ 0xC0000000 ∷ []) 16384) 6 0 0 0
     ∷ ends (checkService Unsigned (0x100 ∷ 0xC0000000 ∷ []) 16384) 7 0 0 0
     ∷ ends (checkService Unsigned (0x000 ∷ 0xC0010000 ∷ []) 16384) 6 1 0 0
     ∷ ends (checkService Unsigned (0x000 ∷ 0xC000FFFF ∷ []) 16384) 0 0 1 0
+    ∷ ends (checkService Unsigned (0x000 ∷ 0xC0000000 ∷ 0x40000001 ∷ 0x80000000 ∷ []) 16384) 6 2 0 0
+    ∷ ends (checkService Unsigned (0x000 ∷ 0xC0000000 ∷ 0x40000000 ∷ 0x80000001 ∷ []) 16384) 6 3 0 0
+    ∷ ends (checkService Unsigned (0x000 ∷ 0xC0000000 ∷ 0x00000062 ∷ 0xC0000001 ∷ []) 16384) 6 3 0 0
+    ∷ ends (checkService Unsigned (0x000 ∷ 0x80000000 ∷ []) 16384) 6 1 0 0
+    ∷ ends (checkService Unsigned (0x000 ∷ 0xC0000000 ∷ 0x80000000 ∷ 0x80000000 ∷ []) 16384) 6 2 0 0
+    ∷ ends (checkService Unsigned (0x000 ∷ 0xC0000000 ∷ 0x40000000 ∷ 0x40000000 ∷ []) 16384) 6 3 0 0
+    ∷ ends (checkService Unsigned (0x000 ∷ 0xC0000000 ∷ 0x40000000 ∷ 0xC0000000 ∷ []) 16384) 6 3 0 0
     ∷ ends (checkService Unsigned otherOrder 16384) 7 0 0 0
     ∷ ends (checkService Unsigned twoRules 16384) 7 0 0 0
     ∷ ends (readService Unsigned ofAbab 16384 4) 0 0 4 40
     ∷ ends (readService Unsigned ofAbab 16384 3) 9 4 0 0
+    ∷ ends (readService Unsigned twoRules 16384 4) 7 0 0 0
+    ∷ ends (extractService Unsigned twoRules 0 1 16384 1) 7 0 0 0
+    ∷ ends (extractService Unsigned ofAbab 2 5 16384 1) 8 0 0 0
     ∷ ends (extractService Unsigned ofAbab 4 0 16384 0) 0 0 0 0
     ∷ ends (extractService Unsigned ofAbab 4 1 16384 0) 8 0 0 0
     ∷ ends (extractService Unsigned ofAbab 18446744073709551615 2 16384 2) 8 0 0 0
     ∷ ends (countService Unsigned ofAbab (b ∷ a ∷ []) 16384) 0 0 1 0
     ∷ ends (countService Unsigned [] [] 0) 2 0 0 0
+    ∷ ends (countService Unsigned twoRules (a ∷ []) 16384) 7 0 0 0
+    ∷ ends (locateService Unsigned [] [] 0 0) 2 0 0 0
+    ∷ ends (locateService Unsigned twoRules (a ∷ []) 16384 2) 7 0 0 0
+    ∷ ends (cutsService Unsigned [] 0) 2 0 0 0
     ∷ ends (locateService Unsigned (tableOf Unsigned (a ∷ a ∷ a ∷ a ∷ []) 0) (a ∷ a ∷ []) 16384 2) 9 3 0 0
     ∷ ends (cutsService Unsigned (a ∷ a ∷ b ∷ a ∷ []) 1) 9 2 0 0
     ∷ leaves (extractService Unsigned ofAbab 1 2 16384 3) (7 ∷ 7 ∷ 7 ∷ []) (b ∷ a ∷ 7 ∷ [])
     ∷ leaves (locateService Unsigned ofAbab (a ∷ b ∷ []) 16384 1) (7 ∷ []) (7 ∷ [])
+    ∷ leaves (locateService Unsigned ofAbab (a ∷ b ∷ []) 16384 3) (7 ∷ 7 ∷ 7 ∷ []) (0 ∷ 2 ∷ 7 ∷ [])
+    ∷ leaves (cutsService Unsigned (a ∷ a ∷ b ∷ a ∷ []) 3) (7 ∷ 7 ∷ 7 ∷ []) (1 ∷ 3 ∷ 7 ∷ [])
     ∷ clears (checkService Unsigned ofAbab 16385) true
     ∷ clears (checkService Unsigned twoRules 16385) true
     ∷ clears (checkService Unsigned (drop 2 ofAbab) 16385) false
@@ -172,9 +205,16 @@ samples =
     ∷ answers (Refused 6 5) 6 5 0
     ∷ reads (reading.Done 5 40) 0 0 5 40
     ∷ reads (reading.Refused 6 5) 6 5 0 0
+    ∷ searches (record { answer = Refused 6 5 }) 6 5 0
+    ∷ replies (record { number = 1; chair = 2; place = 3; count = 4 }) 1 3 4 2
+    ∷ found (record { number = 1; chair = 2; place = 3; count = 4 }) 1 3 4 2
     ∷ spells 0 (48 ∷ [])
+    ∷ spells 9 (57 ∷ [])
     ∷ spells 10 (49 ∷ 48 ∷ [])
+    ∷ spells 99 (57 ∷ 57 ∷ [])
+    ∷ spells 100 (49 ∷ 48 ∷ 48 ∷ [])
     ∷ spells 999 (57 ∷ 57 ∷ 57 ∷ [])
+    ∷ spells 1000 (49 ∷ 48 ∷ 48 ∷ 48 ∷ [])
     ∷ spells 2304 (50 ∷ 51 ∷ 48 ∷ 52 ∷ [])
     ∷ prints (a ∷ b ∷ 10 ∷ abab) (foundIn 6 2 (48 ∷ 10 ∷ 50 ∷ 10 ∷ []))
     ∷ prints [] (refusedWith 2)
@@ -188,11 +228,15 @@ samples =
     ∷ ends (buildService Unsigned (replicate 2047 a) 40 16383 0) 4 0 0 0
     ∷ ends (countService Unsigned [] (replicate 2048 a) 0) 3 0 0 0
     ∷ ends (countService Unsigned [] (replicate 2047 a) 0) 4 0 0 0
+    ∷ ends (locateService Unsigned [] (replicate 2048 a) 0 0) 3 0 0 0
+    ∷ ends (cutsService Unsigned (replicate 2048 a) 0) 3 0 0 0
+    ∷ clears (buildService Unsigned (replicate 2048 a) 40 16385 0) false
+    ∷ clears (countService Unsigned [] (replicate 2048 a) 16385) false
     ∷ ends (checkService Unsigned (replicate 4610 0) 16384) 5 0 0 0
     ∷ ends (checkService Unsigned (replicate 4608 0) 16384) 6 1 0 0
     ∷ []
 
 -- every sample holds
 pub samples-hold : all samples ≡ true
-unfolding holds all samples parts numbersOf readingOutcome every below least placed same begins lexlt lyndon cutOf leftOf rightOf word split lyndonTree indexOf meet visit order ruleOf rulesOf rankOf byteOf numberOfRank rankOfNumber marked wordOf kindOf numberOf ruleWords words tableOf badFirst badSecond badWord stringOf strings ruleString isPair leftHalf rightHalf spelled textOf chairOf isDrive isChair isTable occurrences notGreaterAtDifference isLive liveCuts patternCuts straddles straddling cutIn cutAt firstMet outcome outcomeOf resultAfter cleared workAfter tableChecks patternChecks buildService checkService readService extractService countService locateService cutsService digits digitCount decimal line named decimalLines refusedLine printed motifOf driveOf foundLines motifOutput
+unfolding holds all samples four parts numbersOf readingOutcome searchOutcome replyNumbers searchNumbers every below least placed same begins lexlt lyndon cutOf leftOf rightOf word split lyndonTree indexOf meet visit order ruleOf rulesOf rankOf byteOf numberOfRank rankOfNumber marked wordOf kindOf numberOf ruleWords words tableOf badFirst badSecond badWord stringOf strings ruleString isPair leftHalf rightHalf spelled textOf chairOf isDrive isChair isTable occurrences notGreaterAtDifference isLive liveCuts patternCuts straddles straddling cutIn cutAt firstMet outcome outcomeOf resultAfter cleared workAfter tableChecks patternChecks buildService checkService readService extractService countService locateService cutsService digits digitCount decimal line named decimalLines refusedLine printed motifOf driveOf foundLines motifOutput
 samples-hold = refl

@@ -1,6 +1,6 @@
 -- What each service answers and leaves in the slices lent to it (document 01, "When a request is turned down").
 -- A service's checks are an ordered list; the first that is met decides number, place and what becomes of the work slice.
-use Prim.Native.Nat.{ℕ, _+_, _/_, _%_}
+use Prim.Native.Nat.{ℕ, _+_, _%_}
 use mathlib.Core.Bool.{Bool, true, false, cond, not, _||_}
 use mathlib.Core.List.{List, [], _∷_, _++_}
 use lib.ListN.{length, take, drop, replicate}
@@ -12,7 +12,7 @@ use Rattle.definitions.specs.declared.Reading.{Reading}
 use Rattle.definitions.specs.declared.Reading.the-variants as reading
 use Rattle.definitions.specs.declared.Search.{Search}
 use Rattle.definitions.specs.Words.{least, placed}
-use Rattle.definitions.specs.Table.{tableOf, badWord, isTable, textOf, chairOf}
+use Rattle.definitions.specs.Table.{tableOf, badWord, isTable, textOf, chairOf, ruleCount}
 use Rattle.definitions.specs.Occurrences.{occurrences, patternCuts}
 
 -- ---- outcomes
@@ -136,7 +136,7 @@ buildService o text chair n m = writes (textTooLong text ∷ workTooShort n ∷ 
 
 -- check a table: success gives the number of rules
 unfoldable pub checkService : Order → List ℕ → ℕ → Service
-checkService o t n = record { checks = tableChecks o t n; success = done (length t / 2) 0; written = [] }
+checkService o t n = record { checks = tableChecks o t n; success = done (ruleCount t) 0; written = [] }
 
 -- read a table back
 unfoldable pub readService : Order → List ℕ → ℕ → ℕ → Service

@@ -86,6 +86,10 @@ unfoldable pub stringOf : Order → List (List ℕ) → ℕ → ℕ → List ℕ
 stringOf o before x y =
     cond (eqb (kindOf x) 0) (rankOfNumber o (numberOf x) ∷ []) (getD before (numberOf x) [] ++ getD before (numberOf y) [])
 
+-- how many rules a table has, two words each
+abbrev pub ruleCount : List ℕ → ℕ
+ruleCount t = length t / 2
+
 -- the strings of the first n rules of the table t
 unfoldable pub strings : Order → List ℕ → ℕ → List (List ℕ)
 strings o t zero = []
@@ -94,11 +98,11 @@ strings o t (suc n) =
 
 -- the string of rule r
 unfoldable pub ruleString : Order → List ℕ → ℕ → List ℕ
-ruleString o t r = getD (strings o t (length t / 2)) r []
+ruleString o t r = getD (strings o t (ruleCount t)) r []
 
 -- whether rule r is a pair rule, and its two halves; the join is between them
 unfoldable pub isPair : List ℕ → ℕ → Bool
-isPair t r = ltb r (length t / 2) && eqb (kindOf (getD t (2 * r) 0)) 1
+isPair t r = ltb r (ruleCount t) && eqb (kindOf (getD t (2 * r) 0)) 1
 
 unfoldable pub leftHalf : Order → List ℕ → ℕ → List ℕ
 leftHalf o t r = ruleString o t (numberOf (getD t (2 * r) 0))
@@ -108,7 +112,7 @@ rightHalf o t r = ruleString o t (numberOf (getD t (2 * r + 1) 0))
 
 -- the string of the last rule, the root
 unfoldable pub spelled : Order → List ℕ → List ℕ
-spelled o t = ruleString o t (length t / 2 - 1)
+spelled o t = ruleString o t (ruleCount t - 1)
 
 -- the drive that a table spells behind the mark, and its chair number
 unfoldable pub textOf : Order → List ℕ → List ℕ

@@ -17,7 +17,25 @@ pub enum Reading {
     Refused(u32, usize),
 }
 
-// What counting and locating answer with.
+// What counting and locating answer with: a record, which request S-4 gives a second field.
 pub struct Search {
     pub answer: Answer,
+}
+
+// What the interface to C replies with. number: 0 on success, else the refusal's.
+#[repr(C)]
+pub struct Reply {
+    pub number: u32,
+    pub chair: u32,
+    pub place: u64,
+    pub count: u64,
+}
+
+// What counting and locating reply with there, a record of its own for the same reason.
+#[repr(C)]
+pub struct SearchReply {
+    pub number: u32,
+    pub chair: u32,
+    pub place: u64,
+    pub count: u64,
 }

@@ -10,9 +10,9 @@ use Rattle.definitions.specs.declared.Answer.{Answer}
 use Rattle.definitions.specs.declared.Answer.the-variants.{Done, Refused}
 use Rattle.definitions.specs.Words.{placed}
 use Rattle.definitions.specs.Services.{Check, rangePastEnd, resultTooShort}
+use Rattle.lists.specs.Decisions.{met}
 use Rattle.checks.specs.Checks.{checked, answered, delivered, partChecks}
 use Rattle.checks.proofs.Answers.{refused-met, done-met}
-use Rattle.checks.proofs.Decisions.{met}
 use Rattle.checks.proofs.Serving.{refused-first, done-value, answered-one, answered-later, delivered-met, delivered-later, delivered-none}
 
 module _ (text old : List ℕ) (start count n : ℕ) (e : n ≡ length text) (r : Answer) (f : r ≡ checked (rangePastEnd n start count) count) where

@@ -1,28 +1,22 @@
-// What is at hand, delivered to the front of the result slice, or refused by 8 or 9: words, the text that is loaded or a part of it, live cuts, and the
+// Results written to the front of the result slice, or refused by 8 or 9: words, the text that is loaded or a part of it, live cuts, and the
 // occurrences of a pattern in the text that is loaded.
 use checks::range_fits;
 use checks::result_fits;
 use definitions::Answer;
 use definitions::Order;
 ghost use mathlib.Core.Path.{_≡_};
-ghost use mathlib.Core.Bool.{cond};
-ghost use mathlib.Core.List.{[], _∷_};
-ghost use Prim.Native.Nat.{_/_, _≤_, _<_};
-ghost use lib.Dec.{ltb};
+ghost use Prim.Native.Nat.{_≤_, _<_};
 ghost use lib.ListN.{length, take, drop};
 ghost use Rattle.definitions.specs.Occurrences.{occurrences, patternCuts};
-ghost use Rattle.definitions.specs.Services.{resultTooShort};
-ghost use Rattle.definitions.specs.Table.{tableOf};
-ghost use Rattle.definitions.specs.Words.{placed};
-ghost use Rattle.checks.specs.Checks.{checked, answered, delivered, partChecks};
-ghost use Rattle.grammar.specs.Loaded.{Ready};
-ghost use Rattle.listing.specs.Listing.{Finds};
+ghost use Rattle.checks.specs.Checks.{answered, delivered, partChecks, wholeAnswer, wholeAfter};
+ghost use Rattle.grammar.specs.Loaded.{Ready, rulesLoaded};
+ghost use Rattle.listing.specs.Listing.{Finds, rulesCounted};
 ghost use Rattle.search.specs.Searching.{Searched};
 
 // Copies words to the front of the result slice, or refuses by 9.
 pub fn deliver(words: &[u32], result: &mut [u32]) -> Answer
-    ensures { λ r. ⌜ r ≡ checked (resultTooShort (length (now (words .entry))) (length (now (result .entry)))) (length (now (words .entry))) ⌝ }
-    ensures { λ _. ⌜ now (result .exit) ≡ cond (ltb (length (now (result .entry))) (length (now (words .entry)))) (now (result .entry)) (placed (now (words .entry)) (now (result .entry))) ⌝ }
+    ensures { λ r. ⌜ r ≡ wholeAnswer (now (words .entry)) (length (now (result .entry))) ⌝ }
+    ensures { λ _. ⌜ now (result .exit) ≡ wholeAfter (now (words .entry)) (now (result .entry)) ⌝ }
 {
     let a = result_fits(words.len(), result.len());
     let Answer::Done(_) = a else {
@@ -34,9 +28,9 @@ pub fn deliver(words: &[u32], result: &mut [u32]) -> Answer
 
 // Spells the text that is loaded, whose table has so many rules, or refuses by 9.
 pub fn deliver_text(rules: usize, work: &[u32], result: &mut [u8]) -> Answer
-    requires { ⌜ ((h : Ready (now work)) × (rules ≡ length (tableOf (h .order) (h .text) (h .chair)) / 2)) ⌝ }
-    ensures { λ r. ⌜ ((h : Ready (now (work .entry))) → r ≡ checked (resultTooShort (length (h .text)) (length (now (result .entry)))) (length (h .text))) ⌝ }
-    ensures { λ _. ⌜ ((h : Ready (now (work .entry))) → rules ≡ length (tableOf (h .order) (h .text) (h .chair)) / 2 → now (result .exit) ≡ delivered (resultTooShort (length (h .text)) (length (now (result .entry))) ∷ []) (h .text) (now (result .entry))) ⌝ }
+    requires { ⌜ ((h : Ready (now work)) × (rules ≡ rulesLoaded h)) ⌝ }
+    ensures { λ r. ⌜ ((h : Ready (now (work .entry))) → r ≡ wholeAnswer (h .text) (length (now (result .entry)))) ⌝ }
+    ensures { λ _. ⌜ ((h : Ready (now (work .entry))) → rules ≡ rulesLoaded h → now (result .exit) ≡ wholeAfter (h .text) (now (result .entry))) ⌝ }
 {
     let a = result_fits(spelling::text_length(work), result.len());
     let Answer::Done(_) = a else {
@@ -73,8 +67,8 @@ pub fn deliver_part(
 // Lists the live cuts of a pattern, or refuses by 9.
 pub fn deliver_cuts(order: Order, pattern: &[u8], result: &mut [u32]) -> Answer
     requires { ⌜ length (now pattern) ≤ 2047 ⌝ }
-    ensures { λ r. ⌜ r ≡ checked (resultTooShort (length (patternCuts order (now (pattern .entry)))) (length (now (result .entry)))) (length (patternCuts order (now (pattern .entry)))) ⌝ }
-    ensures { λ _. ⌜ now (result .exit) ≡ delivered (resultTooShort (length (patternCuts order (now (pattern .entry)))) (length (now (result .entry))) ∷ []) (patternCuts order (now (pattern .entry))) (now (result .entry)) ⌝ }
+    ensures { λ r. ⌜ r ≡ wholeAnswer (patternCuts order (now (pattern .entry))) (length (now (result .entry))) ⌝ }
+    ensures { λ _. ⌜ now (result .exit) ≡ wholeAfter (patternCuts order (now (pattern .entry))) (now (result .entry)) ⌝ }
 {
     let a = result_fits(cuts::count(order, pattern), result.len());
     let Answer::Done(_) = a else {
@@ -86,8 +80,8 @@ pub fn deliver_cuts(order: Order, pattern: &[u8], result: &mut [u32]) -> Answer
 
 // Counts in the text that is loaded, whose table has so many rules.
 pub fn count_loaded(order: Order, pattern: &[u8], rules: usize, work: &mut [u32]) -> usize
-    requires { ⌜ ((h : Ready (now work)) × (h .order ≡ order) × (rules ≡ length (tableOf (h .order) (h .text) (h .chair)) / 2) × (0 < length (now pattern)) × (length (now pattern) ≤ 2047)) ⌝ }
-    ensures { λ n. ⌜ ((h : Ready (now (work .entry))) → h .order ≡ order → rules ≡ length (tableOf (h .order) (h .text) (h .chair)) / 2 → (n ≡ length (occurrences (now (pattern .entry)) (h .text))) × Searched order (now (pattern .entry)) (h .text) (h .chair) (now (work .exit))) ⌝ }
+    requires { ⌜ ((h : Ready (now work)) × (h .order ≡ order) × (rules ≡ rulesLoaded h) × (0 < length (now pattern)) × (length (now pattern) ≤ 2047)) ⌝ }
+    ensures { λ n. ⌜ ((h : Ready (now (work .entry))) → h .order ≡ order → rules ≡ rulesLoaded h → (n ≡ length (occurrences (now (pattern .entry)) (h .text))) × Searched order (now (pattern .entry)) (h .text) (h .chair) (now (work .exit))) ⌝ }
 {
     places::place_rules(work, rules);
     search::count(order, pattern, work, rules)
@@ -101,9 +95,9 @@ pub fn locate_loaded(
     work: &mut [u32],
     result: &mut [u32],
 ) -> Answer
-    requires { ⌜ ((h : Ready (now work)) × (h .order ≡ order) × (rules ≡ length (tableOf (h .order) (h .text) (h .chair)) / 2) × (0 < length (now pattern)) × (length (now pattern) ≤ 2047)) ⌝ }
-    ensures { λ r. ⌜ ((h : Ready (now (work .entry))) → h .order ≡ order → rules ≡ length (tableOf (h .order) (h .text) (h .chair)) / 2 → r ≡ checked (resultTooShort (length (occurrences (now (pattern .entry)) (h .text))) (length (now (result .entry)))) (length (occurrences (now (pattern .entry)) (h .text)))) ⌝ }
-    ensures { λ _. ⌜ ((h : Ready (now (work .entry))) → h .order ≡ order → rules ≡ length (tableOf (h .order) (h .text) (h .chair)) / 2 → now (result .exit) ≡ delivered (resultTooShort (length (occurrences (now (pattern .entry)) (h .text))) (length (now (result .entry))) ∷ []) (occurrences (now (pattern .entry)) (h .text)) (now (result .entry))) ⌝ }
+    requires { ⌜ ((h : Ready (now work)) × (h .order ≡ order) × (rules ≡ rulesLoaded h) × (0 < length (now pattern)) × (length (now pattern) ≤ 2047)) ⌝ }
+    ensures { λ r. ⌜ ((h : Ready (now (work .entry))) → h .order ≡ order → rules ≡ rulesLoaded h → r ≡ wholeAnswer (occurrences (now (pattern .entry)) (h .text)) (length (now (result .entry)))) ⌝ }
+    ensures { λ _. ⌜ ((h : Ready (now (work .entry))) → h .order ≡ order → rules ≡ rulesLoaded h → now (result .exit) ≡ wholeAfter (occurrences (now (pattern .entry)) (h .text)) (now (result .entry))) ⌝ }
 {
     let n = count_loaded(order, pattern, rules, work);
     deliver_found(n, rules, work, result)
@@ -111,9 +105,9 @@ pub fn locate_loaded(
 
 // Lists what is counted, n occurrences by so many rules, or refuses by 9.
 fn deliver_found(n: usize, rules: usize, work: &[u32], result: &mut [u32]) -> Answer
-    requires { ⌜ ((h : Finds (now work)) × (rules ≡ length (tableOf (h .order) (h .text) (h .chair)) / 2) × (n ≡ length (occurrences (h .pattern) (h .text)))) ⌝ }
-    ensures { λ r. ⌜ ((h : Finds (now (work .entry))) → n ≡ length (occurrences (h .pattern) (h .text)) → r ≡ checked (resultTooShort (length (occurrences (h .pattern) (h .text))) (length (now (result .entry)))) (length (occurrences (h .pattern) (h .text)))) ⌝ }
-    ensures { λ _. ⌜ ((h : Finds (now (work .entry))) → rules ≡ length (tableOf (h .order) (h .text) (h .chair)) / 2 → n ≡ length (occurrences (h .pattern) (h .text)) → now (result .exit) ≡ delivered (resultTooShort (length (occurrences (h .pattern) (h .text))) (length (now (result .entry))) ∷ []) (occurrences (h .pattern) (h .text)) (now (result .entry))) ⌝ }
+    requires { ⌜ ((h : Finds (now work)) × (rules ≡ rulesCounted h) × (n ≡ length (occurrences (h .pattern) (h .text)))) ⌝ }
+    ensures { λ r. ⌜ ((h : Finds (now (work .entry))) → n ≡ length (occurrences (h .pattern) (h .text)) → r ≡ wholeAnswer (occurrences (h .pattern) (h .text)) (length (now (result .entry)))) ⌝ }
+    ensures { λ _. ⌜ ((h : Finds (now (work .entry))) → rules ≡ rulesCounted h → n ≡ length (occurrences (h .pattern) (h .text)) → now (result .exit) ≡ wholeAfter (occurrences (h .pattern) (h .text)) (now (result .entry))) ⌝ }
 {
     let fits = result_fits(n, result.len());
     let Answer::Done(_) = fits else {

@@ -9,47 +9,48 @@ use lib.Seq.{drop-cons, getD-set-same}
 use Rattle.lists.specs.Parts.{part, part-length, part-set-before, part-set-behind, part-cons, part-none}
 use Rattle.lyndon.specs.Forest.{forest, longest, longests}
 use Rattle.lyndon.specs.Closings.{closingsOf}
+use Rattle.layout.specs.Layout.{LONGEST, CLOSINGS, WORK}
 use Rattle.ends.specs.Areas.{Ended, Merged}
 
 -- the text does not lie where closings lie
-pub text-kept : (w : List ℕ) (n i x : ℕ) → n ≤ 2048 → part 0 n (set w (4096 + i) x) ≡ part 0 n w
-text-kept w n i x h = part-set-behind 0 n w (4096 + i) x (omega arith)
+pub text-kept : (w : List ℕ) (n i x : ℕ) → n ≤ 2048 → part 0 n (set w (CLOSINGS + i) x) ≡ part 0 n w
+text-kept w n i x h = part-set-behind 0 n w (CLOSINGS + i) x (omega arith)
 
-pub opened : (w : List ℕ) (n i : ℕ) → n ≤ 2048 → 16384 ≤ length w → i < n → Ended (part 0 n w) (suc i) w
-    → Ended (part 0 n (set w (4096 + i) 0)) (suc i) (set w (4096 + i) 0) × (getD (set w (4096 + i) 0) (4096 + i) 0 ≡ 0)
+pub opened : (w : List ℕ) (n i : ℕ) → n ≤ 2048 → WORK ≤ length w → i < n → Ended (part 0 n w) (suc i) w
+    → Ended (part 0 n (set w (CLOSINGS + i) 0)) (suc i) (set w (CLOSINGS + i) 0) × (getD (set w (CLOSINGS + i) 0) (CLOSINGS + i) 0 ≡ 0)
 opened w n i short long h e = (
-  subst (λ (s : List ℕ). Ended s (suc i) (set w (4096 + i) 0)) (sym (text-kept w n i 0 short))
+  subst (λ (s : List ℕ). Ended s (suc i) (set w (CLOSINGS + i) 0)) (sym (text-kept w n i 0 short))
       (record {
-        text = part-set-behind 0 (length (part 0 n w)) w (4096 + i) 0 (omega (arith, size)) ∙ e .text;
-        first = part-set-behind (2048 + suc i) (length (part 0 n w) - suc i) w (4096 + i) 0 (omega (arith, size)) ∙ e .first;
-        close = part-set-before (4096 + suc i) (length (part 0 n w) - suc i) w (4096 + i) 0 (omega arith) ∙ e .close;
+        text = part-set-behind 0 (length (part 0 n w)) w (CLOSINGS + i) 0 (omega (arith, size)) ∙ e .text;
+        first = part-set-behind (LONGEST + suc i) (length (part 0 n w) - suc i) w (CLOSINGS + i) 0 (omega (arith, size)) ∙ e .first;
+        close = part-set-before (CLOSINGS + suc i) (length (part 0 n w) - suc i) w (CLOSINGS + i) 0 (omega arith) ∙ e .close;
       }),
-  getD-set-same w (4096 + i) 0 0 (omega arith),
+  getD-set-same w (CLOSINGS + i) 0 0 (omega arith),
 )
   where
     size : length (part 0 n w) ≡ n
     size = part-length 0 n w (omega arith)
 
-pub finished : (s w : List ℕ) (i j : ℕ) → length s ≤ 2048 → 16384 ≤ length w → i < length s → j ≡ i + longest (drop i s) → Merged s i w
-    → Ended s i (set w (2048 + i) (j - i))
+pub finished : (s w : List ℕ) (i j : ℕ) → length s ≤ 2048 → WORK ≤ length w → i < length s → j ≡ i + longest (drop i s) → Merged s i w
+    → Ended s i (set w (LONGEST + i) (j - i))
 unfolding longests
 finished s w i j short long h e m =
     record {
-      text = part-set-behind 0 (length s) w (2048 + i) (j - i) (omega arith) ∙ m .text;
+      text = part-set-behind 0 (length s) w (LONGEST + i) (j - i) (omega arith) ∙ m .text;
       first =
-          ap (λ (n : ℕ). part (2048 + i) n (set w (2048 + i) (j - i))) one-more
-          ∙ part-cons (2048 + i) (length s - suc i) (set w (2048 + i) (j - i)) 0 (simp length-set (omega arith))
+          ap (λ (n : ℕ). part (LONGEST + i) n (set w (LONGEST + i) (j - i))) one-more
+          ∙ part-cons (LONGEST + i) (length s - suc i) (set w (LONGEST + i) (j - i)) 0 (simp length-set (omega arith))
           ∙ ap₂ {C = List ℕ} (λ x l. x ∷ l)
-          (getD-set-same w (2048 + i) (j - i) 0 (omega arith) ∙ length-at ∙ ap longest (drop-cons s i 0 h))
-          (part-set-before (suc (2048 + i)) (length s - suc i) w (2048 + i) (j - i) (omega arith) ∙ ap (λ (n : ℕ). part n (length s - suc i) w) next ∙ m .first)
+          (getD-set-same w (LONGEST + i) (j - i) 0 (omega arith) ∙ length-at ∙ ap longest (drop-cons s i 0 h))
+          (part-set-before (suc (LONGEST + i)) (length s - suc i) w (LONGEST + i) (j - i) (omega arith) ∙ ap (λ (n : ℕ). part n (length s - suc i) w) next ∙ m .first)
           ∙ sym (ap longests (drop-cons s i 0 h));
-      close = part-set-before (4096 + i) (length s - i) w (2048 + i) (j - i) (omega arith) ∙ m .close;
+      close = part-set-before (CLOSINGS + i) (length s - i) w (LONGEST + i) (j - i) (omega arith) ∙ m .close;
     }
   where
     one-more : length s - i ≡ suc (length s - suc i)
     one-more = omega arith
 
-    next : suc (2048 + i) ≡ 2048 + suc i
+    next : suc (LONGEST + i) ≡ LONGEST + suc i
     next = omega arith
 
     length-at : j - i ≡ longest (drop i s)

@@ -16,17 +16,19 @@ use Rattle.lists.specs.Parts.{part, part-at, part-set, part-set-behind, part-co
 use Rattle.lyndon.specs.Trees.{word-filled}
 use Rattle.lyndon.specs.Forest.{merge, forest, merge-true, merge-false, spells, forest-spells, forest-rest, firstLength, longest, longests}
 use Rattle.lyndon.specs.Closings.{closings, closingsOf, bump, sum, closings-length, merge-closings, forest-sum}
+use Rattle.layout.specs.Layout.{LONGEST, CLOSINGS, WORK}
 use Rattle.ends.specs.Areas.{Ended, Merged}
 
+-- the word at i reaches to j and has the tree t; what stands behind i is done, and the closings are those of t and of what stands behind it
 pub record Merging (s : List ℕ) (i j : ℕ) (t : Tree) (w : List ℕ) : Type 0 where
   pub low : i < j
   pub high : j ≤ length s
   pub text : part 0 (length s) w ≡ s
-  pub first : part (2048 + suc i) (length s - suc i) w ≡ longests (drop (suc i) s)
+  pub first : part (LONGEST + suc i) (length s - suc i) w ≡ longests (drop (suc i) s)
   pub size : i + length (word t) ≡ j
   pub spelled : drop i s ≡ word t ++ drop j s
   pub merged : forest (drop i s) ≡ merge t (forest (drop j s))
-  pub close : part (4096 + i) (length s - i) w ≡ closings 0 t ++ closingsOf (forest (drop j s))
+  pub close : part (CLOSINGS + i) (length s - i) w ≡ closings 0 t ++ closingsOf (forest (drop j s))
 
 -- ---- lengths at places
 
@@ -38,7 +40,7 @@ longests-at (a ∷ s) (suc i) h = longests-at s i (omega arith)
 
 -- ---- the beginning: the symbol at i alone
 
-pub starts : (s : List ℕ) (i : ℕ) (w : List ℕ) → i < length s → 4096 + length s ≤ length w → Ended s (suc i) w → getD w (4096 + i) 0 ≡ 0
+pub starts : (s : List ℕ) (i : ℕ) (w : List ℕ) → i < length s → CLOSINGS + length s ≤ length w → Ended s (suc i) w → getD w (CLOSINGS + i) 0 ≡ 0
     → Merging s i (i + 1) (leaf (getD s i 0)) w
 unfolding word forest closings
 starts s i w h k e z =
@@ -51,15 +53,15 @@ starts s i w h k e z =
       spelled = rw add-one (drop-cons s i 0 h);
       merged = rw add-one (ap forest (drop-cons s i 0 h));
       close = rw add-one
-          (ap (λ (n : ℕ). part (4096 + i) n w) one-more
-          ∙ part-cons (4096 + i) (length s - suc i) w 0 (omega arith)
+          (ap (λ (n : ℕ). part (CLOSINGS + i) n w) one-more
+          ∙ part-cons (CLOSINGS + i) (length s - suc i) w 0 (omega arith)
           ∙ ap₂ {C = List ℕ} (λ x l. x ∷ l) z (ap (λ (n : ℕ). part n (length s - suc i) w) next ∙ e .close));
     }
   where
     one-more : length s - i ≡ suc (length s - suc i)
     one-more = omega arith
 
-    next : suc (4096 + i) ≡ 4096 + suc i
+    next : suc (CLOSINGS + i) ≡ CLOSINGS + suc i
     next = omega arith
 
 -- no entry is above the sum
@@ -71,9 +73,10 @@ at-most-sum (n ∷ l) (suc i) = omega (arith, at-most-sum l i)
 
 -- ---- the next tree
 
+-- r is the tree of the next word, which begins at j
 pub record Next (s : List ℕ) (i j : ℕ) (t r : Tree) (w : List ℕ) : Type 0 where
   pub ahead : forest (drop j s) ≡ r ∷ forest (drop (j + length (word r)) s)
-  pub stored : getD w (2048 + j) 0 ≡ length (word r)
+  pub stored : getD w (LONGEST + j) 0 ≡ length (word r)
   pub filled : 0 < length (word r)
   pub inside : j + length (word r) ≤ length s
   pub left : part i (j - i) w ≡ word t
@@ -111,16 +114,16 @@ next s i j t w short long m h = go (forest (drop j s)) refl
         ahead : forest (drop j s) ≡ r ∷ forest (drop (j + length (word r)) s)
         ahead = e ∙ ap {B = List Tree} (λ x. r ∷ x) (sym (forest-rest (drop j s) r f e) ∙ ap forest behind)
 
-        stored : getD w (2048 + j) 0 ≡ length (word r)
+        stored : getD w (LONGEST + j) 0 ≡ length (word r)
         stored =
             ap (λ (k : ℕ). getD w k 0) place
-            ∙ sym (part-at (2048 + suc i) (length s - suc i) w (j - suc i) 0 (omega (arith, m .low)))
+            ∙ sym (part-at (LONGEST + suc i) (length s - suc i) w (j - suc i) 0 (omega (arith, m .low)))
             ∙ ap (λ (l : List ℕ). getD l (j - suc i) 0) (m .first)
             ∙ longests-at (drop (suc i) s) (j - suc i) (simp length-drop (omega (arith, m .low)))
             ∙ ap longest (drop-drop (j - suc i) (suc i) s ∙ ap (λ (k : ℕ). drop k s) back)
             ∙ ap firstLength e
           where
-            place : 2048 + j ≡ 2048 + suc i + (j - suc i)
+            place : LONGEST + j ≡ LONGEST + suc i + (j - suc i)
             place = omega (arith, m .low)
 
             back : suc i + (j - suc i) ≡ j
@@ -152,7 +155,7 @@ bump-behind : (a l m : List ℕ) → 0 < length l
 bump-behind [] l m h = rw zero-add (bump-set l m h)
 bump-behind (n ∷ a) l m h = rw suc-add (ap {B = List ℕ} (λ x. n ∷ x) (bump-behind a l m h))
 
-module _ (s : List ℕ) (i j : ℕ) (t r : Tree) (w : List ℕ) (short : length s ≤ 2048) (long : 16384 ≤ length w) (m : Merging s i j t w) (x : Next s i j t r w) where
+module _ (s : List ℕ) (i j : ℕ) (t r : Tree) (w : List ℕ) (short : length s ≤ 2048) (long : WORK ≤ length w) (m : Merging s i j t w) (x : Next s i j t r w) where
   abbrev pub k : ℕ
   k = length (word r)
 
@@ -163,22 +166,22 @@ module _ (s : List ℕ) (i j : ℕ) (t r : Tree) (w : List ℕ) (short : length 
   abbrev at : ℕ
   at = length (closings 0 t) + (length (closings 0 r) - 1)
 
-  old : part (4096 + i) (length s - i) w ≡ closings 0 t ++ (closings 0 r ++ closingsOf f)
+  old : part (CLOSINGS + i) (length s - i) w ≡ closings 0 t ++ (closings 0 r ++ closingsOf f)
   unfolding closingsOf
   old = m .close ∙ ap (λ (y : List Tree). closings 0 t ++ closingsOf y) (x .ahead)
 
-  at-is : 4096 + i + at ≡ 4096 + j + k - 1
+  at-is : CLOSINGS + i + at ≡ CLOSINGS + j + k - 1
   at-is = omega (arith, closings-length 0 t, closings-length 0 r, m .size, x .filled)
 
   inside : at < length s - i
   inside = omega (arith, closings-length 0 t, closings-length 0 r, m .size, m .low, x .filled, x .inside)
 
   -- no count is large
-  pub closing-small : getD w (4096 + j + k - 1) 0 < 4096
+  pub closing-small : getD w (CLOSINGS + j + k - 1) 0 < 4096
   unfolding spells closingsOf
   closing-small =
       subst (λ (q : ℕ). getD w q 0 < 4096) at-is
-      (subst (λ (q : ℕ). q < 4096) (part-at (4096 + i) (length s - i) w at 0 inside)
+      (subst (λ (q : ℕ). q < 4096) (part-at (CLOSINGS + i) (length s - i) w at 0 inside)
       (subst (λ (l : List ℕ). getD l at 0 < 4096) (sym (m .close)) small))
     where
       all : List Tree
@@ -191,14 +194,14 @@ module _ (s : List ℕ) (i j : ℕ) (t r : Tree) (w : List ℕ) (short : length 
       small = omega (arith, at-most-sum (closingsOf all) at, forest-sum all, symbols)
 
   -- the text, the lengths and the closings once one is added
-  pub joins : lexlt (word t) (word r) ≡ true → Merging s i (j + k) (node t r) (set w (4096 + j + k - 1) (getD w (4096 + j + k - 1) 0 + 1))
+  pub joins : lexlt (word t) (word r) ≡ true → Merging s i (j + k) (node t r) (set w (CLOSINGS + j + k - 1) (getD w (CLOSINGS + j + k - 1) 0 + 1))
   unfolding word
   joins e =
       record {
         low = omega (arith, m .low);
         high = x .inside;
-        text = part-set-behind 0 (length s) w (4096 + j + k - 1) v (omega (arith, x .filled)) ∙ m .text;
-        first = part-set-behind (2048 + suc i) (length s - suc i) w (4096 + j + k - 1) v (omega (arith, x .filled, m .low)) ∙ m .first;
+        text = part-set-behind 0 (length s) w (CLOSINGS + j + k - 1) v (omega (arith, x .filled)) ∙ m .text;
+        first = part-set-behind (LONGEST + suc i) (length s - suc i) w (CLOSINGS + j + k - 1) v (omega (arith, x .filled, m .low)) ∙ m .first;
         size = simp length-append (omega (arith, m .size));
         spelled = m .spelled ∙ ap (λ (y : List ℕ). word t ++ y) (x .rest) ∙ sym (append-assoc (word t) (word r) (drop (j + k) s));
         merged = m .merged ∙ ap (merge t) (x .ahead) ∙ merge-true t r f e;
@@ -206,18 +209,18 @@ module _ (s : List ℕ) (i j : ℕ) (t r : Tree) (w : List ℕ) (short : length 
       }
     where
       v : ℕ
-      v = getD w (4096 + j + k - 1) 0 + 1
+      v = getD w (CLOSINGS + j + k - 1) 0 + 1
 
       value : v ≡ getD (closings 0 t ++ (closings 0 r ++ closingsOf f)) at 0 + 1
       value =
           ap (λ (q : ℕ). getD w q 0 + 1) (sym at-is)
-          ∙ ap (λ (q : ℕ). q + 1) (sym (part-at (4096 + i) (length s - i) w at 0 inside))
+          ∙ ap (λ (q : ℕ). q + 1) (sym (part-at (CLOSINGS + i) (length s - i) w at 0 inside))
           ∙ ap (λ (l : List ℕ). getD l at 0 + 1) old
 
-      close : part (4096 + i) (length s - i) (set w (4096 + j + k - 1) v) ≡ closings 0 (node t r) ++ closingsOf f
+      close : part (CLOSINGS + i) (length s - i) (set w (CLOSINGS + j + k - 1) v) ≡ closings 0 (node t r) ++ closingsOf f
       close =
-          ap (λ (q : ℕ). part (4096 + i) (length s - i) (set w q v)) (sym at-is)
-          ∙ part-set (4096 + i) (length s - i) w at v inside
+          ap (λ (q : ℕ). part (CLOSINGS + i) (length s - i) (set w q v)) (sym at-is)
+          ∙ part-set (CLOSINGS + i) (length s - i) w at v inside
           ∙ ap₂ {C = List ℕ} (λ l y. set l at y) old value
           ∙ sym (bump-behind (closings 0 t) (closings 0 r) (closingsOf f) (omega (arith, closings-length 0 r, x .filled)))
           ∙ sym (append-assoc (closings 0 t) (bump (closings 0 r)) (closingsOf f))

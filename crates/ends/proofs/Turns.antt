@@ -10,18 +10,19 @@ use Rattle.definitions.specs.Words.{lexlt}
 use Rattle.definitions.specs.Grammar.{Tree, node, word}
 use Rattle.lists.specs.Parts.{part, part-length, part-part}
 use Rattle.lyndon.specs.Forest.{longest}
+use Rattle.layout.specs.Layout.{LONGEST, CLOSINGS, WORK}
 use Rattle.ends.specs.Areas.{Merged}
 use Rattle.ends.proofs.Merging.{Merging, Next, next, closing-small, joins, stops, stops-at-end, ends-at}
 
 -- ---- a turn of the loop, in the code's terms: w₀ is the slice at entry, k the length stored at j
 
-pub record Turn (w₀ w : List ℕ) (n i j k : ℕ) : Type 0 where
+pub record MergeTurn (w₀ w : List ℕ) (n i j k : ℕ) : Type 0 where
   pub low : i < j
   pub filled : 0 < k
   pub inside : j + k ≤ n
-  pub small : getD w (4096 + j + k - 1) 0 < 4096
+  pub small : getD w (CLOSINGS + j + k - 1) 0 < 4096
   pub joined : lexlt (part i (j - i) (take (n - 0) w)) (part j k (take (n - 0) w)) ≡ true
-      → (t : Tree) × Merging (part 0 n w₀) i (j + k) t (set w (4096 + j + k - 1) (getD w (4096 + j + k - 1) 0 + 1))
+      → (t : Tree) × Merging (part 0 n w₀) i (j + k) t (set w (CLOSINGS + j + k - 1) (getD w (CLOSINGS + j + k - 1) 0 + 1))
   pub stopped : lexlt (part i (j - i) (take (n - 0) w)) (part j k (take (n - 0) w)) ≡ false
       → (j ≡ i + longest (drop i (part 0 n w₀))) × (j ≤ n) × Merged (part 0 n w₀) i w
 
@@ -31,8 +32,8 @@ unfolding part
 front-part n o l w h =
     ap (λ (m : ℕ). part o l (take m w)) (sub-zero n) ∙ part-part 0 n o l w h ∙ ap (λ (m : ℕ). part m l w) (zero-add o)
 
-pub turn : (w₀ w : List ℕ) (n i j k : ℕ) → n ≤ 2048 → 16384 ≤ length w₀ → length w ≡ length w₀
-    → (t : Tree) × Merging (part 0 n w₀) i j t w → j < n → k ≡ getD w (2048 + j) 0 → Turn w₀ w n i j k
+pub turn : (w₀ w : List ℕ) (n i j k : ℕ) → n ≤ 2048 → WORK ≤ length w₀ → length w ≡ length w₀
+    → (t : Tree) × Merging (part 0 n w₀) i j t w → j < n → k ≡ getD w (LONGEST + j) 0 → MergeTurn w₀ w n i j k
 turn w₀ w n i j k short long same (t, m) h e = go (next s i j t w (omega (arith, size)) (omega arith) m (omega (arith, size)))
   where
     s : List ℕ
@@ -41,9 +42,9 @@ turn w₀ w n i j k short long same (t, m) h e = go (next s i j t w (omega (arit
     size : length s ≡ n
     size = part-length 0 n w₀ (omega arith)
 
-    go : (r : Tree) × Next s i j t r w → Turn w₀ w n i j k
+    go : (r : Tree) × Next s i j t r w → MergeTurn w₀ w n i j k
     go (r, x) =
-        subst (λ (q : ℕ). Turn w₀ w n i j q) (sym width)
+        subst (λ (q : ℕ). MergeTurn w₀ w n i j q) (sym width)
         (record {
           low = m .low;
           filled = x .filled;

@@ -3,21 +3,21 @@
 //
 // From right to left, the word at a place is joined with the words behind it while it is smaller than the next; one length a place
 // stands for the stack of words. Comparing costs at most about n * n / 8 symbol steps, reached by (a^k b)^2.
-pub mod layout;
-
 use compare::before;
 use definitions::Order;
-use layout::CLOSE;
-use layout::FIRST;
+use layout::CLOSINGS;
+use layout::LONGEST;
+use ranks::rank_of;
 use slices::put;
 use slices::wide;
 ghost use mathlib.Core.Path.{_≡_};
 ghost use Prim.Native.Nat.{suc, _+_, _≤_, _<_};
 ghost use lib.ListN.{length, getD, set, drop};
 ghost use Rattle.definitions.specs.Words.{placed};
-ghost use Rattle.definitions.specs.Table.{rankOf, marked};
+ghost use Rattle.definitions.specs.Table.{marked};
 ghost use Rattle.lists.specs.Parts.{part};
 ghost use Rattle.lyndon.specs.Forest.{longest};
+ghost use Rattle.layout.specs.Layout.{CLOSINGS, WORK};
 ghost use Rattle.ends.specs.Areas.{Ended, Merged};
 
 // Places the marked text at the front of the work slice.
@@ -33,18 +33,9 @@ pub fn place_text(order: Order, text: &[u8], work: &mut [u32])
     work[0] = 0;
 }
 
-// The rank of a byte in an order of samples.
-pub fn rank_of(order: Order, byte: u8) -> u32
-    ensures { λ r. ⌜ r ≡ rankOf order byte ⌝ }
-{
-    match order {
-        Order::Unsigned => byte as u32 + 1,
-    }
-}
-
 // The lengths of the longest Lyndon words of the n ranks at the front, and the closings.
 pub fn ends(work: &mut [u32], n: usize)
-    requires { ⌜ (n ≤ 2048) × (16384 ≤ length (now work)) ⌝ }
+    requires { ⌜ (n ≤ 2048) × (WORK ≤ length (now work)) ⌝ }
     ensures { λ _. ⌜ Ended (part 0 n (now (work .entry))) 0 (now (work .exit)) ⌝ }
 {
     let mut i = n;
@@ -56,26 +47,26 @@ pub fn ends(work: &mut [u32], n: usize)
 
 // The same at one place, once it is done behind it.
 fn end_at(work: &mut [u32], n: usize, i: usize)
-    requires { ⌜ (n ≤ 2048) × (16384 ≤ length (now work)) × (i < n) × Ended (part 0 n (now work)) (suc i) (now work) ⌝ }
+    requires { ⌜ (n ≤ 2048) × (WORK ≤ length (now work)) × (i < n) × Ended (part 0 n (now work)) (suc i) (now work) ⌝ }
     ensures { λ _. ⌜ Ended (part 0 n (now (work .entry))) i (now (work .exit)) ⌝ }
 {
-    put(work, CLOSE + i, 0);
+    put(work, CLOSINGS + i, 0);
     let j = merge(work, n, i);
-    put(work, FIRST + i, (j - i) as u32);
+    put(work, LONGEST + i, (j - i) as u32);
 }
 
 // Joins the word at i with the words behind it while it is smaller than the next. Answers where it ends.
 fn merge(work: &mut [u32], n: usize, i: usize) -> usize
-    requires { ⌜ (n ≤ 2048) × (16384 ≤ length (now work)) × (i < n) × Ended (part 0 n (now work)) (suc i) (now work) × (getD (now work) (4096 + i) 0 ≡ 0) ⌝ }
+    requires { ⌜ (n ≤ 2048) × (WORK ≤ length (now work)) × (i < n) × Ended (part 0 n (now work)) (suc i) (now work) × (getD (now work) (CLOSINGS + i) 0 ≡ 0) ⌝ }
     ensures { λ r. ⌜ (r ≡ i + longest (drop i (part 0 n (now (work .entry))))) × (r ≤ n) × Merged (part 0 n (now (work .entry))) i (now (work .exit)) ⌝ }
 {
     let mut j = i + 1;
     while j < n {
-        let k = wide(work[FIRST + j]);
+        let k = wide(work[LONGEST + j]);
         if !before(&work[0..n], i, j, k) {
             return j;
         }
-        bump(work, CLOSE + j + k - 1);
+        bump(work, CLOSINGS + j + k - 1);
         j += k;
     }
     j

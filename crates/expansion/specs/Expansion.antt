@@ -2,37 +2,39 @@
 -- what the table spells.
 use mathlib.Core.Path.{_≡_}
 use mathlib.Core.List.{List, [], _++_}
-use Prim.Native.Nat.{ℕ, zero, suc, _+_, _/_, _≤_, _<_}
+use Prim.Native.Nat.{ℕ, zero, suc, _+_, _≤_, _<_}
 use lib.ListN.{length, getD}
 use Rattle.definitions.specs.declared.Order.{Order}
-use Rattle.definitions.specs.Table.{ruleString, spelled}
+use Rattle.definitions.specs.Table.{ruleString, spelled, ruleCount}
 use Rattle.lists.specs.Parts.{part}
 use Rattle.lyndon.specs.Shapes.{Shaped}
+use Rattle.layout.specs.Layout.{STACK, WORK}
 use Rattle.expansion.specs.declared.Turn.{Turn}
 use Rattle.expansion.specs.declared.Turn.the-variants.{Next, Whole}
 
--- what the d pending rules spell, the top first; they stand from 6,144 on
+-- what the d pending rules spell, the top first; they stand from STACK on
 unfoldable pub pendingIn : Order → List ℕ → List ℕ → ℕ → List ℕ
 pendingIn o t w zero = []
-pendingIn o t w (suc d) = ruleString o t (getD w (6144 + d) 0) ++ pendingIn o t w d
+pendingIn o t w (suc d) = ruleString o t (getD w (STACK + d) 0) ++ pendingIn o t w d
 
+-- the first symbols are written, `rule` comes next, and the pending rules behind it
 pub record Expanding (o : Order) (t w : List ℕ) (rule written pending : ℕ) : Type 0 where
-  pub low : rule < length t / 2
-  pub rules : (k : ℕ) → k < pending → getD w (6144 + k) 0 < length t / 2
+  pub low : rule < ruleCount t
+  pub rules : (k : ℕ) → k < pending → getD w (STACK + k) 0 < ruleCount t
   pub whole : spelled o t ≡ part 0 written w ++ (ruleString o t rule ++ pendingIn o t w pending)
 
 -- the walk can go on
-pub record Steps (o : Order) (t w : List ℕ) (rule written pending : ℕ) : Type 0 where
+pub record Expandable (o : Order) (t w : List ℕ) (rule written pending : ℕ) : Type 0 where
   pub shaped : Shaped t
   pub most : length t ≤ 4608
-  pub long : 16384 ≤ length w
+  pub long : WORK ≤ length w
   pub room : written + pending < 2048
   pub expanding : Expanding o t w rule written pending
 
 -- what follows a symbol, and a pair
 unfoldable pub afterSymbol : List ℕ → ℕ → ℕ → Turn
 afterSymbol w written zero = Whole (written + 1)
-afterSymbol w written (suc d) = Next (record { rule = getD w (6144 + d) 0; written = written + 1; pending = d })
+afterSymbol w written (suc d) = Next (record { rule = getD w (STACK + d) 0; written = written + 1; pending = d })
 
 unfoldable pub afterPair : ℕ → ℕ → ℕ → Turn
 afterPair left written pending = Next (record { rule = left; written = written; pending = pending + 1 })

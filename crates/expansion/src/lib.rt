@@ -3,8 +3,9 @@
 // Each pending rule spells at least one symbol, so the walk stops at 2,048 symbols written and pending together: a table whose strings
 // double at each rule costs no more than any other.
 use definitions::Order;
-use ends::layout::KIND_1;
-use ends::layout::STACK;
+use layout::KIND;
+use layout::STACK;
+use ranks::rank_of_number;
 use slices::put;
 use slices::wide;
 ghost use mathlib.Core.Path.{_≡_};
@@ -12,7 +13,8 @@ ghost use Prim.Native.Nat.{_+_, _≤_, _<_};
 ghost use lib.ListN.{length, set};
 ghost use Rattle.definitions.specs.Table.{rankOfNumber};
 ghost use Rattle.lyndon.specs.Shapes.{Shaped};
-ghost use Rattle.expansion.specs.Expansion.{Expanded, Steps, Stepped, afterSymbol, afterPair};
+ghost use Rattle.layout.specs.Layout.{STACK, WORK};
+ghost use Rattle.expansion.specs.Expansion.{Expanded, Expandable, Stepped, afterSymbol, afterPair};
 
 // Where the walk over a table stands: a rule to spell, so many symbols written, so many rules pending.
 pub struct Place {
@@ -28,7 +30,7 @@ pub enum Turn {
 
 // Expands the root to ranks at the front of the work slice. Answers how many there are, 0 if more than 2,048.
 pub fn expand(order: Order, table: &[u32], work: &mut [u32]) -> usize
-    requires { ⌜ Shaped (now table) × (length (now table) ≤ 4608) × (16384 ≤ length (now work)) ⌝ }
+    requires { ⌜ Shaped (now table) × (length (now table) ≤ 4608) × (WORK ≤ length (now work)) ⌝ }
     ensures { λ r. ⌜ Expanded order (now (table .entry)) (now (work .exit)) r ⌝ }
 {
     let root = table.len() / 2 - 1;
@@ -53,22 +55,22 @@ pub fn expand(order: Order, table: &[u32], work: &mut [u32]) -> usize
 
 // One rule of the walk: a symbol is written and the next pending rule taken up, of a pair the right half is left pending.
 fn expand_rule(order: Order, table: &[u32], work: &mut [u32], p: Place) -> Turn
-    requires { ⌜ Steps order (now table) (now work) (p .rule) (p .written) (p .pending) ⌝ }
+    requires { ⌜ Expandable order (now table) (now work) (p .rule) (p .written) (p .pending) ⌝ }
     ensures { λ t. ⌜ Stepped order (now (table .entry)) (now (work .exit)) (p .written) (p .pending) t ⌝ }
 {
     let r = p.rule;
     let x = table[2 * r];
     let y = table[2 * r + 1];
-    if x < KIND_1 {
+    if x < KIND {
         write_symbol(order, work, p, x)
     } else {
-        leave_right(work, p, x % KIND_1, y % KIND_1)
+        leave_right(work, p, x % KIND, y % KIND)
     }
 }
 
 // Writes a symbol and takes up the rule that was left pending last.
 fn write_symbol(order: Order, work: &mut [u32], p: Place, number: u32) -> Turn
-    requires { ⌜ (number < 257) × (p .written + p .pending < 2048) × (16384 ≤ length (now work)) ⌝ }
+    requires { ⌜ (number < 257) × (p .written + p .pending < 2048) × (WORK ≤ length (now work)) ⌝ }
     ensures { λ t. ⌜ (now (work .exit) ≡ set (now (work .entry)) (p .written) (rankOfNumber order number)) × (t ≡ afterSymbol (now (work .entry)) (p .written) (p .pending)) ⌝ }
 {
     let n = p.written;
@@ -87,8 +89,8 @@ fn write_symbol(order: Order, work: &mut [u32], p: Place, number: u32) -> Turn
 
 // Leaves the right half pending and goes on with the left half.
 fn leave_right(work: &mut [u32], p: Place, left: u32, right: u32) -> Turn
-    requires { ⌜ (p .written + p .pending < 2048) × (16384 ≤ length (now work)) ⌝ }
-    ensures { λ t. ⌜ (now (work .exit) ≡ set (now (work .entry)) (6144 + p .pending) right) × (t ≡ afterPair left (p .written) (p .pending)) ⌝ }
+    requires { ⌜ (p .written + p .pending < 2048) × (WORK ≤ length (now work)) ⌝ }
+    ensures { λ t. ⌜ (now (work .exit) ≡ set (now (work .entry)) (STACK + p .pending) right) × (t ≡ afterPair left (p .written) (p .pending)) ⌝ }
 {
     let n = p.written;
     let d = p.pending;
@@ -98,13 +100,4 @@ fn leave_right(work: &mut [u32], p: Place, left: u32, right: u32) -> Turn
         written: n,
         pending: d + 1,
     })
-}
-
-// The rank of a symbol rule's number.
-fn rank_of_number(order: Order, number: u32) -> u32
-    ensures { λ r. ⌜ r ≡ rankOfNumber order number ⌝ }
-{
-    match order {
-        Order::Unsigned => number,
-    }
 }

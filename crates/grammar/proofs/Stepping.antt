@@ -13,19 +13,20 @@ use Rattle.definitions.specs.Table.{numberOfRank, words, wordOf}
 use Rattle.lists.specs.Parts.{part, part-length, part-at, part-none}
 use Rattle.lyndon.specs.Encoding.{firstWord, secondWord}
 use Rattle.lyndon.specs.Closings.{State, start, push, joins, run, Enough, joins-depth, run-extends}
+use Rattle.layout.specs.Layout.{CLOSINGS, STACK, LINKS, TABLE, BESIDE_SYMBOL}
 use Rattle.dict.specs.Links.{dict-none}
-use Rattle.stack.specs.Areas.{Rules, stackIn, Holds, Pushes, Joins, Below}
-use Rattle.grammar.specs.Numbering.{stepped, Steps, numbered, Numbers}
+use Rattle.stack.specs.Areas.{Rules, stackIn, Holds, Pushable, Joinable, Below}
+use Rattle.grammar.specs.Numbering.{stepped, Steppable, numbered, Numberable}
 use Rattle.stack.proofs.Stacks.{joins-room}
 
 -- below the stack the slices agree
-pub below-at : (w v : List ℕ) (i : ℕ) → i < 6144 → Below w v → getD v i 0 ≡ getD w i 0
+pub below-at : (w v : List ℕ) (i : ℕ) → i < STACK → Below w v → getD v i 0 ≡ getD w i 0
 below-at w v i h e =
-    sym (getD-take 6144 v i 0 h) ∙ ap (λ (l : List ℕ). getD l i 0) e ∙ getD-take 6144 w i 0 h
+    sym (getD-take STACK v i 0 h) ∙ ap (λ (l : List ℕ). getD l i 0) e ∙ getD-take STACK w i 0 h
 
 -- ---- one symbol
 
-module _ (o : Order) (w : List ℕ) (n d i : ℕ) (p : Steps o w n d i) where
+module _ (o : Order) (w : List ℕ) (n d i : ℕ) (p : Steppable o w n d i) where
   abbrev a : ℕ
   a = getD w i 0
 
@@ -33,7 +34,7 @@ module _ (o : Order) (w : List ℕ) (n d i : ℕ) (p : Steps o w n d i) where
   after = push (p .s .rules) (symbol a) (p .s .stack)
 
   -- the symbol's rule can be pushed
-  pub step-pushes : (q : Pushes w n d (numberOfRank o (getD w i 0)) 3221225472) × (q .o ≡ o)
+  step-pushes : (q : Pushable w n d (numberOfRank o (getD w i 0)) BESIDE_SYMBOL) × (q .o ≡ o)
       × (push (q .s .rules) (q .rule) (q .s .stack) ≡ push (p .s .rules) (symbol (getD w i 0)) (p .s .stack))
   unfolding firstWord secondWord wordOf stepped push
   step-pushes = (
@@ -46,15 +47,15 @@ module _ (o : Order) (w : List ℕ) (n d i : ℕ) (p : Steps o w n d i) where
       first = omega arith;
       second = refl;
       encodes = p .rank;
-      room = omega (arith, joins-room (getD w (4096 + i) 0) after, p .room);
+      room = omega (arith, joins-room (getD w (CLOSINGS + i) 0) after, p .room);
     },
     refl,
     refl,
   )
 
   -- then its joins can be done
-  pub step-joins : (v : List ℕ) (m e : ℕ) → Holds o (push (p .s .rules) (symbol (getD w i 0)) (p .s .stack)) v m e
-      → (q : Joins v m e (getD w (4096 + i) 0)) × (q .o ≡ o) × (joins (getD w (4096 + i) 0) (q .s) ≡ stepped (p .s) w i)
+  step-joins : (v : List ℕ) (m e : ℕ) → Holds o (push (p .s .rules) (symbol (getD w i 0)) (p .s .stack)) v m e
+      → (q : Joinable v m e (getD w (CLOSINGS + i) 0)) × (q .o ≡ o) × (joins (getD w (CLOSINGS + i) 0) (q .s) ≡ stepped (p .s) w i)
   unfolding stepped push
   step-joins v m e h = (
     record {
@@ -70,42 +71,43 @@ module _ (o : Order) (w : List ℕ) (n d i : ℕ) (p : Steps o w n d i) where
   )
 
 -- the same in the code's terms: x is the number of the symbol's rank
-module _ (o : Order) (w : List ℕ) (n d i : ℕ) (p : Steps o w n d i) (x : ℕ) (e : x ≡ numberOfRank o (getD w i 0)) where
-  pub step-push : Pushes w n d x 3221225472
-  step-push = subst (λ (y : ℕ). Pushes w n d y 3221225472) (sym e) (step-pushes o w n d i p .0)
+module _ (o : Order) (w : List ℕ) (n d i : ℕ) (p : Steppable o w n d i) (x : ℕ) (e : x ≡ numberOfRank o (getD w i 0)) where
+  pub step-push : Pushable w n d x BESIDE_SYMBOL
+  step-push = subst (λ (y : ℕ). Pushable w n d y BESIDE_SYMBOL) (sym e) (step-pushes o w n d i p .0)
 
-  pub step-pushed : (v : List ℕ) (m f : ℕ)
-      → ((q : Pushes w n d x 3221225472) → Holds (q .o) (push (q .s .rules) (q .rule) (q .s .stack)) v m f)
+  step-pushed : (v : List ℕ) (m f : ℕ)
+      → ((q : Pushable w n d x BESIDE_SYMBOL) → Holds (q .o) (push (q .s .rules) (q .rule) (q .s .stack)) v m f)
       → Holds o (push (p .s .rules) (symbol (getD w i 0)) (p .s .stack)) v m f
   step-pushed v m f h =
       let (q, a, b) = step-pushes o w n d i p in
-      let h′ : (q : Pushes w n d (numberOfRank o (getD w i 0)) 3221225472) → Holds (q .o) (push (q .s .rules) (q .rule) (q .s .stack)) v m f
-      = subst (λ (y : ℕ). (q : Pushes w n d y 3221225472) → Holds (q .o) (push (q .s .rules) (q .rule) (q .s .stack)) v m f) e h in
+      let h′ : (q : Pushable w n d (numberOfRank o (getD w i 0)) BESIDE_SYMBOL) → Holds (q .o) (push (q .s .rules) (q .rule) (q .s .stack)) v m f
+      = subst (λ (y : ℕ). (q : Pushable w n d y BESIDE_SYMBOL) → Holds (q .o) (push (q .s .rules) (q .rule) (q .s .stack)) v m f) e h in
       subst (λ (s : State). Holds o s v m f) b (subst (λ (y : Order). Holds y (push (q .s .rules) (q .rule) (q .s .stack)) v m f) a (h′ q))
 
   pub step-join : (v : List ℕ) (m f : ℕ)
-      → ((q : Pushes w n d x 3221225472) → Holds (q .o) (push (q .s .rules) (q .rule) (q .s .stack)) v m f)
-      → Joins v m f (getD w (4096 + i) 0)
+      → ((q : Pushable w n d x BESIDE_SYMBOL) → Holds (q .o) (push (q .s .rules) (q .rule) (q .s .stack)) v m f)
+      → Joinable v m f (getD w (CLOSINGS + i) 0)
   step-join v m f h = step-joins o w n d i p v m f (step-pushed v m f h) .0
 
   pub step-done : (v u : List ℕ) (m m′ f f′ : ℕ)
-      → ((q : Pushes w n d x 3221225472) → Holds (q .o) (push (q .s .rules) (q .rule) (q .s .stack)) v m f)
-      → ((q : Joins v m f (getD w (4096 + i) 0)) → Holds (q .o) (joins (getD w (4096 + i) 0) (q .s)) u m′ f′)
+      → ((q : Pushable w n d x BESIDE_SYMBOL) → Holds (q .o) (push (q .s .rules) (q .rule) (q .s .stack)) v m f)
+      → ((q : Joinable v m f (getD w (CLOSINGS + i) 0)) → Holds (q .o) (joins (getD w (CLOSINGS + i) 0) (q .s)) u m′ f′)
       → Holds o (stepped (p .s) w i) u m′ f′
   step-done v u m m′ f f′ h k =
       let (q, a, b) = step-joins o w n d i p v m f (step-pushed v m f h) in
-      subst (λ (s : State). Holds o s u m′ f′) b (subst (λ (y : Order). Holds y (joins (getD w (4096 + i) 0) (q .s)) u m′ f′) a (k q))
+      subst (λ (s : State). Holds o s u m′ f′) b (subst (λ (y : Order). Holds y (joins (getD w (CLOSINGS + i) 0) (q .s)) u m′ f′) a (k q))
 
 -- ---- the whole pass
 
+-- the pass is behind i symbols: v holds its state s, and the rest of the run is that of the whole
 pub record Stage (o : Order) (n : ℕ) (w v : List ℕ) (m d i : ℕ) : Type 0 where
   pub s : State
   pub holds : Holds o s v m d
-  pub rest : run s (drop i (part 0 n w)) (drop i (part 4096 n w)) ≡ run start (part 0 n w) (part 4096 n w)
-  pub enough : Enough d (drop i (part 4096 n w))
+  pub rest : run s (drop i (part 0 n w)) (drop i (part CLOSINGS n w)) ≡ run start (part 0 n w) (part CLOSINGS n w)
+  pub enough : Enough d (drop i (part CLOSINGS n w))
   pub low : d ≤ i
 
-pub stage-start : (o : Order) (n : ℕ) (w : List ℕ) → Numbers n w → ((b : ℕ) → b < 1024 → getD w (8192 + b) 0 ≡ 0) → Stage o n w w 0 0 0
+pub stage-start : (o : Order) (n : ℕ) (w : List ℕ) → Numberable n w → ((b : ℕ) → b < 1024 → getD w (LINKS + b) 0 ≡ 0) → Stage o n w w 0 0 0
 unfolding stackIn words
 stage-start o n w k z =
     record {
@@ -115,8 +117,8 @@ stage-start o n w k z =
         depth = refl;
         rules = record {
           long = k .long;
-          table = part-none 11520 w;
-          dict = dict-none (part 11520 4608 w) (part 8192 3328 w) (λ b h. part-at 8192 3328 w b 0 (omega arith) ∙ z b h);
+          table = part-none TABLE w;
+          dict = dict-none (part TABLE 4608 w) (part LINKS 3328 w) (λ b h. part-at LINKS 3328 w b 0 (omega arith) ∙ z b h);
           encodes = λ r h. absurd (omega arith);
         };
         stack = refl;
@@ -127,41 +129,35 @@ stage-start o n w k z =
       low = omega arith;
     }
 
-module _ (o : Order) (n : ℕ) (w v : List ℕ) (m d i : ℕ) (k : Numbers n w) (b : Below w v) (g : Stage o n w v m d i) (h : i < n) where
-  text : List ℕ
-  text = part 0 n w
-
-  close : List ℕ
-  close = part 4096 n w
-
+module _ (o : Order) (n : ℕ) (w v : List ℕ) (m d i : ℕ) (k : Numberable n w) (b : Below w v) (g : Stage o n w v m d i) (h : i < n) where
   text-size : length (part 0 n w) ≡ n
   text-size = part-length 0 n w (omega (arith, k .short, k .long))
 
-  close-size : length (part 4096 n w) ≡ n
-  close-size = part-length 4096 n w (omega (arith, k .short, k .long))
+  close-size : length (part CLOSINGS n w) ≡ n
+  close-size = part-length CLOSINGS n w (omega (arith, k .short, k .long))
 
   -- what the code reads
   symbol-at : getD v i 0 ≡ getD (part 0 n w) i 0
   symbol-at = below-at w v i (omega (arith, k .short)) b ∙ ap (λ (q : ℕ). getD w q 0) (omega arith) ∙ sym (part-at 0 n w i 0 h)
 
-  closing-at : getD v (4096 + i) 0 ≡ getD (part 4096 n w) i 0
-  closing-at = below-at w v (4096 + i) (omega (arith, k .short)) b ∙ sym (part-at 4096 n w i 0 h)
+  closing-at : getD v (CLOSINGS + i) 0 ≡ getD (part CLOSINGS n w) i 0
+  closing-at = below-at w v (CLOSINGS + i) (omega (arith, k .short)) b ∙ sym (part-at CLOSINGS n w i 0 h)
 
   -- running on is a step and then the rest
-  pub ran : run (g .s) (drop i (part 0 n w)) (drop i (part 4096 n w)) ≡ run (stepped (g .s) v i) (drop (suc i) (part 0 n w)) (drop (suc i) (part 4096 n w))
+  pub ran : run (g .s) (drop i (part 0 n w)) (drop i (part CLOSINGS n w)) ≡ run (stepped (g .s) v i) (drop (suc i) (part 0 n w)) (drop (suc i) (part CLOSINGS n w))
   unfolding run stepped
   ran =
-      ap₂ {C = State} (λ x y. run (g .s) x y) (drop-cons (part 0 n w) i 0 (omega (arith, text-size))) (drop-cons (part 4096 n w) i 0 (omega (arith, close-size)))
-      ∙ ap₂ {C = State} (λ c x. run (joins c (push (g .s .rules) (symbol x) (g .s .stack))) (drop (suc i) (part 0 n w)) (drop (suc i) (part 4096 n w))) (sym closing-at) (sym symbol-at)
+      ap₂ {C = State} (λ x y. run (g .s) x y) (drop-cons (part 0 n w) i 0 (omega (arith, text-size))) (drop-cons (part CLOSINGS n w) i 0 (omega (arith, close-size)))
+      ∙ ap₂ {C = State} (λ c x. run (joins c (push (g .s .rules) (symbol x) (g .s .stack))) (drop (suc i) (part 0 n w)) (drop (suc i) (part CLOSINGS n w))) (sym closing-at) (sym symbol-at)
 
-  pub closing : (getD v (4096 + i) 0 ≤ d) × Enough (suc d - getD v (4096 + i) 0) (drop (suc i) (part 4096 n w))
+  pub closing : (getD v (CLOSINGS + i) 0 ≤ d) × Enough (suc d - getD v (CLOSINGS + i) 0) (drop (suc i) (part CLOSINGS n w))
   closing =
-      rw closing-at (subst (Enough d) (drop-cons (part 4096 n w) i 0 (omega (arith, close-size))) (g .enough))
+      rw closing-at (subst (Enough d) (drop-cons (part CLOSINGS n w) i 0 (omega (arith, close-size))) (g .enough))
 
-  unfoldable pub stage-steps : Steps o v m d i
+  unfoldable pub stage-steps : Steppable o v m d i
   unfolding numbered
   stage-steps =
-      let (M, e) = run-extends (stepped (g .s) v i) (drop (suc i) (part 0 n w)) (drop (suc i) (part 4096 n w)) in
+      let (M, e) = run-extends (stepped (g .s) v i) (drop (suc i) (part 0 n w)) (drop (suc i) (part CLOSINGS n w)) in
       record {
         s = g .s;
         holds = g .holds;
@@ -181,23 +177,23 @@ module _ (o : Order) (n : ℕ) (w v : List ℕ) (m d i : ℕ) (k : Numbers n w) 
   pub stage-next : (u : List ℕ) (m′ d′ : ℕ) → Holds o (stepped (g .s) v i) u m′ d′ → Stage o n w u m′ d′ (i + 1)
   unfolding stepped push
   stage-next u m′ d′ q =
-      let size = joins-depth (getD v (4096 + i) 0) (push (g .s .rules) (symbol (getD v i 0)) (g .s .stack)) (omega (arith, g .holds .depth, closing .0)) in
-      let depth : suc d - getD v (4096 + i) 0 ≡ d′ = omega (arith, q .depth, g .holds .depth, closing .0) in
+      let size = joins-depth (getD v (CLOSINGS + i) 0) (push (g .s .rules) (symbol (getD v i 0)) (g .s .stack)) (omega (arith, g .holds .depth, closing .0)) in
+      let depth : suc d - getD v (CLOSINGS + i) 0 ≡ d′ = omega (arith, q .depth, g .holds .depth, closing .0) in
       record {
         s = stepped (g .s) v i;
         holds = q;
         rest = rw add-one (sym ran ∙ g .rest);
-        enough = rw add-one (subst (λ (x : ℕ). Enough x (drop (suc i) (part 4096 n w))) depth (closing .1));
+        enough = rw add-one (subst (λ (x : ℕ). Enough x (drop (suc i) (part CLOSINGS n w))) depth (closing .1));
         low = omega (arith, g .low, closing .0);
       }
 
-pub stage-end : (o : Order) (n : ℕ) (w v : List ℕ) (m d i : ℕ) → Numbers n w → Stage o n w v m d i → n ≤ i
+pub stage-end : (o : Order) (n : ℕ) (w v : List ℕ) (m d i : ℕ) → Numberable n w → Stage o n w v m d i → n ≤ i
     → Rules o (numbered n w) v × (m ≡ length (numbered n w))
 unfolding numbered run
 stage-end o n w v m d i k g h =
     let none : drop i (part 0 n w) ≡ [] = drop-of-length-le (part 0 n w) (over n i h (part-length 0 n w (omega (arith, k .short, k .long)))) in
-    let e : g .s .rules ≡ run start (part 0 n w) (part 4096 n w) .rules
-    = ap (λ (x : List ℕ). run (g .s) x (drop i (part 4096 n w)) .rules) (sym none) ∙ ap (λ (s : State). s .rules) (g .rest) in
+    let e : g .s .rules ≡ run start (part 0 n w) (part CLOSINGS n w) .rules
+    = ap (λ (x : List ℕ). run (g .s) x (drop i (part CLOSINGS n w)) .rules) (sym none) ∙ ap (λ (s : State). s .rules) (g .rest) in
     (subst (λ (K : List Rule). Rules o K v) e (g .holds .rules), g .holds .count ∙ ap length e)
   where
     over : (n i : ℕ) → n ≤ i → length (part 0 n w) ≡ n → length (part 0 n w) ≤ i

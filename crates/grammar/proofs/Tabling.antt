@@ -23,60 +23,61 @@ use Rattle.lyndon.specs.Rules.{rulesFor, rules-length, rule-at, rule-symbol}
 use Rattle.lyndon.specs.Encoding.{firstWord, secondWord, words-cons}
 use Rattle.lyndon.specs.Closings.{start, run, closingsOf, Enough, forest-enough, run-rules}
 use Rattle.lyndon.specs.Reading.{Stored, storable, order-most, table-words, table-length}
+use Rattle.layout.specs.Layout.{LONGEST, CLOSINGS, STACK, LINKS, TABLE, CHAIR, WORK, BESIDE_SYMBOL}
 use Rattle.ends.specs.Areas.{Ended}
 use Rattle.stack.specs.Areas.{Rules, Below}
-use Rattle.grammar.specs.Numbering.{numbered, Numbers}
+use Rattle.grammar.specs.Numbering.{numbered, Numberable}
 use Rattle.grammar.specs.Loaded.{Marked, Loaded}
 use Rattle.grammar.proofs.Stepping.{below-at}
 
 -- ---- cleared buckets
 
--- the slice w with 1,024 words from 8,192 on replaced
+-- the slice w with 1,024 words from LINKS on replaced, the buckets
 abbrev replaced : List ℕ → List ℕ → List ℕ
-replaced w l = take 8192 w ++ (l ++ drop 1024 (drop 8192 w))
+replaced w l = take LINKS w ++ (l ++ drop 1024 (drop LINKS w))
 
-module _ (w l : List ℕ) (long : 16384 ≤ length w) (e : l ≡ replicate (length (take 1024 (drop 8192 w))) 0) where
-  size : length (take 1024 (drop 8192 w)) ≡ 1024
+module _ (w l : List ℕ) (long : WORK ≤ length w) (e : l ≡ replicate (length (take 1024 (drop LINKS w))) 0) where
+  size : length (take 1024 (drop LINKS w)) ≡ 1024
   size = simp (length-take, length-drop) (omega arith)
 
-  front : length (take 8192 w) ≡ 8192
-  front = length-take-le 8192 w (omega arith)
+  front : length (take LINKS w) ≡ LINKS
+  front = length-take-le LINKS w (omega arith)
 
   zeros : l ≡ replicate 1024 0
   zeros = e ∙ ap (λ (n : ℕ). replicate n 0) size
 
-  pub cleared-below : take 8192 (take 8192 w ++ (l ++ drop 1024 (drop 8192 w))) ≡ take 8192 w
-  cleared-below = ap (λ (n : ℕ). take n (replaced w l)) (sym front) ∙ take-append-seam (take 8192 w) (l ++ drop 1024 (drop 8192 w))
+  cleared-below : take LINKS (take LINKS w ++ (l ++ drop 1024 (drop LINKS w))) ≡ take LINKS w
+  cleared-below = ap (λ (n : ℕ). take n (replaced w l)) (sym front) ∙ take-append-seam (take LINKS w) (l ++ drop 1024 (drop LINKS w))
 
-  pub cleared-stays : Below w (take 8192 w ++ (l ++ drop 1024 (drop 8192 w)))
-  cleared-stays = sym (take-take 6144 8192 (replaced w l) (omega arith)) ∙ ap (take 6144) cleared-below ∙ take-take 6144 8192 w (omega arith)
+  pub cleared-stays : Below w (take LINKS w ++ (l ++ drop 1024 (drop LINKS w)))
+  cleared-stays = sym (take-take STACK LINKS (replaced w l) (omega arith)) ∙ ap (take STACK) cleared-below ∙ take-take STACK LINKS w (omega arith)
 
-  pub cleared-length : length (take 8192 w ++ (l ++ drop 1024 (drop 8192 w))) ≡ length w
+  cleared-length : length (take LINKS w ++ (l ++ drop 1024 (drop LINKS w))) ≡ length w
   cleared-length = simp (length-append, length-drop, front) (omega (arith, ap length zeros, length-replicate {A = ℕ} 1024 0))
 
-  pub cleared-buckets : (b : ℕ) → b < 1024 → getD (take 8192 w ++ (l ++ drop 1024 (drop 8192 w))) (8192 + b) 0 ≡ 0
+  pub cleared-buckets : (b : ℕ) → b < 1024 → getD (take LINKS w ++ (l ++ drop 1024 (drop LINKS w))) (LINKS + b) 0 ≡ 0
   cleared-buckets b h =
       ap (λ (n : ℕ). getD (replaced w l) (n + b) 0) (sym front)
-      ∙ getD-append-add (take 8192 w) (l ++ drop 1024 (drop 8192 w)) b 0
-      ∙ List·getD-append l (drop 1024 (drop 8192 w)) 0 b (omega (arith, ap length zeros, length-replicate {A = ℕ} 1024 0))
+      ∙ getD-append-add (take LINKS w) (l ++ drop 1024 (drop LINKS w)) b 0
+      ∙ List·getD-append l (drop 1024 (drop LINKS w)) 0 b (omega (arith, ap length zeros, length-replicate {A = ℕ} 1024 0))
       ∙ ap (λ (x : List ℕ). getD x b 0) zeros
       ∙ getD-replicate 1024 b 0 0 h
 
   -- what is numbered lies below
-  pub cleared-numbered : (n : ℕ) → n ≤ 2048 → numbered n (take 8192 w ++ (l ++ drop 1024 (drop 8192 w))) ≡ numbered n w
+  pub cleared-numbered : (n : ℕ) → n ≤ 2048 → numbered n (take LINKS w ++ (l ++ drop 1024 (drop LINKS w))) ≡ numbered n w
   unfolding numbered
   cleared-numbered n h =
       ap₂ {C = List Rule} (λ x y. run start x y .rules)
-      (part-agree 8192 0 n w (replaced w l) cleared-below (omega arith))
-      (part-agree 8192 4096 n w (replaced w l) cleared-below (omega arith))
+      (part-agree LINKS 0 n w (replaced w l) cleared-below (omega arith))
+      (part-agree LINKS CLOSINGS n w (replaced w l) cleared-below (omega arith))
 
-  pub cleared-numbers : (n : ℕ) → Numbers n w → Numbers n (take 8192 w ++ (l ++ drop 1024 (drop 8192 w)))
+  pub cleared-numbers : (n : ℕ) → Numberable n w → Numberable n (take LINKS w ++ (l ++ drop 1024 (drop LINKS w)))
   cleared-numbers n k =
       record {
         short = k .short;
         long = omega (arith, cleared-length);
         ranks = λ i h. rw (below-at w (replaced w l) i (omega (arith, k .short)) cleared-stays) (k .ranks i h);
-        enough = subst (Enough 0) (sym (part-agree 8192 4096 n w (replaced w l) cleared-below (omega (arith, k .short)))) (k .enough);
+        enough = subst (Enough 0) (sym (part-agree LINKS CLOSINGS n w (replaced w l) cleared-below (omega (arith, k .short)))) (k .enough);
         room = rw (cleared-numbered n (k .short)) (k .room);
       }
 
@@ -86,15 +87,15 @@ module _ (o : Order) (n chair : ℕ) (w₀ w : List ℕ) (m : Marked o n chair w
   area : length (part 0 n w₀) ≡ n
   area = part-length 0 n w₀ (omega (arith, m .long, m .size, m .stored .short))
 
-  pub ended-text : part 0 n w ≡ marked o (m .text)
+  ended-text : part 0 n w ≡ marked o (m .text)
   ended-text = ap (λ (k : ℕ). part 0 k w) (sym area) ∙ e .text ∙ m .front
 
-  pub ended-first : part 2048 n w ≡ longests (marked o (m .text))
-  ended-first = ap (λ (k : ℕ). part 2048 k w) (sym area ∙ sym (sub-zero (length (part 0 n w₀)))) ∙ e .first ∙ ap longests (m .front)
+  pub ended-first : part LONGEST n w ≡ longests (marked o (m .text))
+  ended-first = ap (λ (k : ℕ). part LONGEST k w) (sym area ∙ sym (sub-zero (length (part 0 n w₀)))) ∙ e .first ∙ ap longests (m .front)
 
-  ended-close : part 4096 n w ≡ closingsOf (forest (marked o (m .text)))
+  ended-close : part CLOSINGS n w ≡ closingsOf (forest (marked o (m .text)))
   ended-close =
-      ap (λ (k : ℕ). part 4096 k w) (sym area ∙ sym (sub-zero (length (part 0 n w₀)))) ∙ e .close ∙ ap (λ (s : List ℕ). closingsOf (forest s)) (m .front)
+      ap (λ (k : ℕ). part CLOSINGS k w) (sym area ∙ sym (sub-zero (length (part 0 n w₀)))) ∙ e .close ∙ ap (λ (s : List ℕ). closingsOf (forest s)) (m .front)
 
   pub ended-numbered : numbered n w ≡ rulesOf (marked o (m .text))
   unfolding numbered
@@ -105,7 +106,7 @@ module _ (o : Order) (n chair : ℕ) (w₀ w : List ℕ) (m : Marked o n chair w
   unfolding rulesOf rulesFor
   rules-size = rules-length (order (marked o (m .text)))
 
-  pub ended-numbers : Numbers n w
+  pub ended-numbers : Numberable n w
   ended-numbers =
       record {
         short = omega (arith, m .size, m .stored .short);
@@ -146,26 +147,26 @@ module _ (o : Order) (n chair : ℕ) (w₀ w : List ℕ) (m : Marked o n chair w
       absurd (omega (arith, at)))
       (λ h. (getD (getD S 0 []) 0 0, rule-at S 0 ∙ rule-symbol S (getD S 0 []) h))
 
-  chaired : set (words o 0 (rulesOf (marked o (m .text)))) 1 (3221225472 + chair) ≡ words o chair (rulesFor (order (marked o (m .text))))
+  chaired : set (words o 0 (rulesOf (marked o (m .text)))) 1 (BESIDE_SYMBOL + chair) ≡ words o chair (rulesFor (order (marked o (m .text))))
   unfolding wordOf rulesOf rulesFor
   chaired = let (a, q) = mark-first in sym (words-chair (rulesFor S) chair a (omega (arith, some-string, rules-length S)) q)
 
-  pub tabled : (v : List ℕ) → Rules o (rulesOf (marked o (m .text))) v → Below w v → Loaded o (m .text) chair (set v 11521 (3221225472 + chair))
+  pub tabled : (v : List ℕ) → Rules o (rulesOf (marked o (m .text))) v → Below w v → Loaded o (m .text) chair (set v CHAIR (BESIDE_SYMBOL + chair))
   tabled v r b =
       record {
         long = simp length-set (r .long);
         ranks = subst (λ (k : ℕ). part 0 k u ≡ marked o (m .text)) (m .size) (kept 0 n (omega (arith, short)) ∙ ended-text);
-        first = subst (λ (k : ℕ). part 2048 k u ≡ longests (marked o (m .text))) (m .size) (kept 2048 n (omega (arith, short)) ∙ ended-first);
+        first = subst (λ (k : ℕ). part LONGEST k u ≡ longests (marked o (m .text))) (m .size) (kept LONGEST n (omega (arith, short)) ∙ ended-first);
         table =
-            ap (λ (k : ℕ). part 11520 k u) count
-            ∙ part-set 11520 (2 * length K) v 1 (3221225472 + chair) (omega (arith, some-string, rules-size))
-            ∙ ap (λ (l : List ℕ). set l 1 (3221225472 + chair)) (r .table)
+            ap (λ (k : ℕ). part TABLE k u) count
+            ∙ part-set TABLE (2 * length K) v 1 (BESIDE_SYMBOL + chair) (omega (arith, some-string, rules-size))
+            ∙ ap (λ (l : List ℕ). set l 1 (BESIDE_SYMBOL + chair)) (r .table)
             ∙ chaired
             ∙ sym (table-words o (m .text) chair (m .stored));
       }
     where
       u : List ℕ
-      u = set v 11521 (3221225472 + chair)
+      u = set v CHAIR (BESIDE_SYMBOL + chair)
 
       K : List Rule
       K = rulesOf (marked o (m .text))
@@ -173,8 +174,8 @@ module _ (o : Order) (n chair : ℕ) (w₀ w : List ℕ) (m : Marked o n chair w
       short : n ≤ 2048
       short = omega (arith, m .size, m .stored .short)
 
-      kept : (a k : ℕ) → a + k ≤ 6144 → part a k u ≡ part a k w
-      kept a k h = part-set-behind a k v 11521 (3221225472 + chair) (omega arith) ∙ part-agree 6144 a k w v b h
+      kept : (a k : ℕ) → a + k ≤ STACK → part a k u ≡ part a k w
+      kept a k h = part-set-behind a k v CHAIR (BESIDE_SYMBOL + chair) (omega arith) ∙ part-agree STACK a k w v b h
 
       count : length (tableOf o (m .text) chair) ≡ 2 * length K
       count = table-length o (m .text) chair (m .stored) ∙ ap (λ (k : ℕ). 2 * k) (sym rules-size)
@@ -189,11 +190,11 @@ unfolding part
 placed-front-part o text w v e =
     ap₂ {C = List ℕ} (λ k l. take k l) (add-one (length text) ∙ sym (marked-length o text)) e ∙ placed-front (marked o text) w
 
-pub placed-long : (o : Order) (text w v : List ℕ) (chair : ℕ) → Stored text chair → 16384 ≤ length w → v ≡ placed (marked o text) w → 16384 ≤ length v
+pub placed-long : (o : Order) (text w v : List ℕ) (chair : ℕ) → Stored text chair → WORK ≤ length w → v ≡ placed (marked o text) w → WORK ≤ length v
 placed-long o text w v chair k h e =
     omega (arith, ap length e, placed-length (marked o text) w (omega (arith, marked-length o text, k .short)))
 
-unfoldable pub placed-marked : (o : Order) (text w v : List ℕ) (chair : ℕ) → Stored text chair → 16384 ≤ length w → v ≡ placed (marked o text) w
+unfoldable pub placed-marked : (o : Order) (text w v : List ℕ) (chair : ℕ) → Stored text chair → WORK ≤ length w → v ≡ placed (marked o text) w
     → Marked o (length text + 1) chair v
 placed-marked o text w v chair k h e =
     record {

@@ -7,10 +7,11 @@ use native.Mathlib.Omega.{arith}
 use lib.ListN.{length, take, drop}
 use Rattle.definitions.specs.declared.Order.{Order}
 use Rattle.definitions.specs.Grammar.{order as orderOf}
-use Rattle.definitions.specs.Table.{marked, tableOf}
+use Rattle.definitions.specs.Table.{marked, tableOf, ruleCount}
 use Rattle.lists.specs.Parts.{part}
 use Rattle.lyndon.specs.Forest.{longests}
 use Rattle.lyndon.specs.Reading.{Stored, order-most, table-length}
+use Rattle.layout.specs.Layout.{LONGEST, TABLE, WORK}
 
 -- the n ranks at the front are those of a marked text
 pub record Marked (o : Order) (n chair : ℕ) (w : List ℕ) : Type 0 where
@@ -18,13 +19,14 @@ pub record Marked (o : Order) (n chair : ℕ) (w : List ℕ) : Type 0 where
   pub stored : Stored text chair
   pub size : n ≡ suc (length text)
   pub front : part 0 n w ≡ marked o text
-  pub long : 16384 ≤ length w
+  pub long : WORK ≤ length w
 
+-- ranks, lengths of the longest Lyndon words and table of a text and a chair number
 pub record Loaded (o : Order) (text : List ℕ) (chair : ℕ) (w : List ℕ) : Type 0 where
-  pub long : 16384 ≤ length w
+  pub long : WORK ≤ length w
   pub ranks : part 0 (suc (length text)) w ≡ marked o text
-  pub first : part 2048 (suc (length text)) w ≡ longests (marked o text)
-  pub table : part 11520 (length (tableOf o text chair)) w ≡ tableOf o text chair
+  pub first : part LONGEST (suc (length text)) w ≡ longests (marked o text)
+  pub table : part TABLE (length (tableOf o text chair)) w ≡ tableOf o text chair
 
 -- some text is loaded
 pub record Ready (w : List ℕ) : Type 0 where
@@ -34,13 +36,17 @@ pub record Ready (w : List ℕ) : Type 0 where
   pub stored : Stored text chair
   pub loaded : Loaded order text chair w
 
+-- how many rules its table has
+abbrev pub rulesLoaded : {w : List ℕ} → Ready w → ℕ
+rulesLoaded h = ruleCount (tableOf (h .order) (h .text) (h .chair))
+
 -- the words of the table that is loaded
 pub loaded-words : (o : Order) (text w : List ℕ) (chair r : ℕ) → Stored text chair → Loaded o text chair w → r ≡ length (orderOf (marked o text))
-    → take (11520 + 2 * r - 11520) (drop 11520 w) ≡ tableOf o text chair
+    → take (TABLE + 2 * r - TABLE) (drop TABLE w) ≡ tableOf o text chair
 unfolding part
 loaded-words o text w chair r k l e =
-    let size : 11520 + 2 * r - 11520 ≡ length (tableOf o text chair) = omega (arith, table-length o text chair k) in
-    ap (λ (n : ℕ). take n (drop 11520 w)) size ∙ l .table
+    let size : TABLE + 2 * r - TABLE ≡ length (tableOf o text chair) = omega (arith, table-length o text chair k) in
+    ap (λ (n : ℕ). take n (drop TABLE w)) size ∙ l .table
 
 pub rules-most : (o : Order) (text : List ℕ) (chair r : ℕ) → Stored text chair → r ≡ length (orderOf (marked o text)) → r ≤ 2304
 rules-most o text chair r k e = omega (arith, order-most o text chair k)

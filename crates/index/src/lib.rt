@@ -7,8 +7,8 @@ use checks::work_fits;
 use definitions::Answer;
 use definitions::Order;
 use delivery::deliver;
-use ends::layout::TABLE;
-use ends::layout::WORK;
+use layout::TABLE;
+use layout::WORK;
 pub use reading::extract;
 pub use reading::read;
 pub use searching::count;
@@ -16,16 +16,14 @@ pub use searching::live_cuts;
 pub use searching::locate;
 use shapes::shaped;
 ghost use mathlib.Core.Path.{_≡_};
-ghost use mathlib.Core.Bool.{cond};
 ghost use Prim.Native.Nat.{_≤_};
 ghost use lib.ListN.{length};
-ghost use lib.Dec.{ltb};
 ghost use Rattle.definitions.specs.declared.Order.the-variants.{Unsigned};
-ghost use Rattle.definitions.specs.Words.{placed};
 ghost use Rattle.definitions.specs.Table.{tableOf};
-ghost use Rattle.definitions.specs.Services.{outcomeOf, outcome, resultAfter, workAfter, cleared, resultTooShort, notATable, buildService, checkService};
+ghost use Rattle.definitions.specs.Services.{outcomeOf, outcome, resultAfter, workAfter, cleared, notATable, buildService, checkService};
 ghost use Rattle.lyndon.specs.Shapes.{Shaped};
-ghost use Rattle.checks.specs.Checks.{checked};
+ghost use Rattle.layout.specs.Layout.{WORK};
+ghost use Rattle.checks.specs.Checks.{checked, wholeAnswer, wholeAfter};
 
 // Builds the table of a text and a chair number. Refuses by 1, 4, 9; success answers the number of words.
 pub fn build(text: &[u8], chair: u16, work: &mut [u32], result: &mut [u32]) -> Answer
@@ -52,9 +50,9 @@ fn build_checked(
     work: &mut [u32],
     result: &mut [u32],
 ) -> Answer
-    requires { ⌜ (length (now text) ≤ 2047) × (16384 ≤ length (now work)) ⌝ }
-    ensures { λ r. ⌜ r ≡ checked (resultTooShort (length (tableOf order (now (text .entry)) chair)) (length (now (result .entry)))) (length (tableOf order (now (text .entry)) chair)) ⌝ }
-    ensures { λ _. ⌜ now (result .exit) ≡ cond (ltb (length (now (result .entry))) (length (tableOf order (now (text .entry)) chair))) (now (result .entry)) (placed (tableOf order (now (text .entry)) chair) (now (result .entry))) ⌝ }
+    requires { ⌜ (length (now text) ≤ 2047) × (WORK ≤ length (now work)) ⌝ }
+    ensures { λ r. ⌜ r ≡ wholeAnswer (tableOf order (now (text .entry)) chair) (length (now (result .entry))) ⌝ }
+    ensures { λ _. ⌜ now (result .exit) ≡ wholeAfter (tableOf order (now (text .entry)) chair) (now (result .entry)) ⌝ }
     ensures { λ _. ⌜ now (work .exit) ≡ cleared (now (work .entry)) ⌝ }
 {
     let a = build_in(order, text, chair, &mut work[0..WORK], result);
@@ -64,9 +62,9 @@ fn build_checked(
 
 // The same in 16,384 words, which are not cleared here.
 fn build_in(order: Order, text: &[u8], chair: u16, work: &mut [u32], result: &mut [u32]) -> Answer
-    requires { ⌜ (length (now text) ≤ 2047) × (16384 ≤ length (now work)) ⌝ }
-    ensures { λ r. ⌜ r ≡ checked (resultTooShort (length (tableOf order (now (text .entry)) chair)) (length (now (result .entry)))) (length (tableOf order (now (text .entry)) chair)) ⌝ }
-    ensures { λ _. ⌜ now (result .exit) ≡ cond (ltb (length (now (result .entry))) (length (tableOf order (now (text .entry)) chair))) (now (result .entry)) (placed (tableOf order (now (text .entry)) chair) (now (result .entry))) ⌝ }
+    requires { ⌜ (length (now text) ≤ 2047) × (WORK ≤ length (now work)) ⌝ }
+    ensures { λ r. ⌜ r ≡ wholeAnswer (tableOf order (now (text .entry)) chair) (length (now (result .entry))) ⌝ }
+    ensures { λ _. ⌜ now (result .exit) ≡ wholeAfter (tableOf order (now (text .entry)) chair) (now (result .entry)) ⌝ }
 {
     let end = TABLE + 2 * grammar::table(order, text, chair, work);
     deliver(&work[TABLE..end], result)
@@ -86,7 +84,7 @@ pub fn check(table: &[u32], work: &mut [u32]) -> Answer
 
 // The same, once length and words are known to be in shape and the work slice to fit. Success answers the number of rules, which is handed on.
 fn check_shaped(order: Order, table: &[u32], rules: usize, work: &mut [u32]) -> Answer
-    requires { ⌜ Shaped (now table) × (length (now table) ≤ 4608) × (16384 ≤ length (now work)) ⌝ }
+    requires { ⌜ Shaped (now table) × (length (now table) ≤ 4608) × (WORK ≤ length (now work)) ⌝ }
     ensures { λ r. ⌜ r ≡ checked (notATable order (now (table .entry))) rules ⌝ }
     ensures { λ _. ⌜ now (work .exit) ≡ cleared (now (work .entry)) ⌝ }
 {

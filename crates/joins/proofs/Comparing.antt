@@ -1,40 +1,31 @@
 -- Comparing a pattern with ranks symbol by symbol: while they agree the rest decides (`rank-agrees`, `rank-differs`, `ranks-ended`), and the
 -- whole comparison is an equation (`same-part`, `not-same-part`).
-use mathlib.Core.Path.{_≡_, refl, sym, _∙_, ap}
+use mathlib.Core.Path.{_≡_, sym, _∙_}
 use mathlib.Core.Bool.{true, false}
-use mathlib.Core.List.{List, [], _∷_, map}
-use Prim.Native.Nat.{ℕ, zero, suc, _+_, _<_}
+use mathlib.Core.List.{List, map}
+use Prim.Native.Nat.{ℕ, _+_, _<_}
 use native.Mathlib.Omega.{arith}
 use lib.ListN.{length, take, drop, getD, length-map}
 use Rattle.definitions.specs.declared.Order.{Order}
 use Rattle.definitions.specs.Words.{same}
 use Rattle.definitions.specs.Table.{rankOf}
 use Rattle.lists.specs.Bools.{contra}
-use Rattle.lists.specs.Parts.{part}
+use Rattle.lists.specs.Members.{map-at}
+use Rattle.lists.specs.Parts.{part, part-taken}
 use Rattle.lists.specs.Sameness.{agree, differ, ended}
 use Rattle.lists.specs.Strings.{same-eq, eq-same}
 
--- the rank of the sample at i
-rank-at : (o : Order) (p : List ℕ) (i : ℕ) → i < length p → getD (map (rankOf o) p) i 0 ≡ rankOf o (getD p i 0)
-rank-at o [] i h = absurd (omega arith)
-rank-at o (a ∷ p) zero h = refl
-rank-at o (a ∷ p) (suc i) h = rank-at o p i (omega arith)
-
 module _ (o : Order) (p s : List ℕ) (i : ℕ) (h : i < length p) (e : length s ≡ length p) where
   pub rank-agrees : rankOf o (getD p i 0) ≡ getD s i 0 → same (drop i (map (rankOf o) p)) (drop i s) ≡ same (drop (i + 1) (map (rankOf o) p)) (drop (i + 1) s)
-  rank-agrees q = agree (map (rankOf o) p) s i (omega (arith, length-map p (rankOf o))) (omega arith) (rank-at o p i h ∙ q)
+  rank-agrees q = agree (map (rankOf o) p) s i (omega (arith, length-map p (rankOf o))) (omega arith) (map-at (rankOf o) p i h ∙ q)
 
   pub rank-differs : (rankOf o (getD p i 0) ≡ getD s i 0 → ⊥) → same (drop i (map (rankOf o) p)) (drop i s) ≡ false
-  rank-differs n = differ (map (rankOf o) p) s i (omega (arith, length-map p (rankOf o))) (omega arith) (λ q. n (sym (rank-at o p i h) ∙ q))
+  rank-differs n = differ (map (rankOf o) p) s i (omega (arith, length-map p (rankOf o))) (omega arith) (λ q. n (sym (map-at (rankOf o) p i h) ∙ q))
 
 pub ranks-ended : (o : Order) (p s : List ℕ) (i : ℕ) → i ≡ length p → length s ≡ length p → same (drop i (map (rankOf o) p)) (drop i s) ≡ true
 ranks-ended o p s i e f = ended (map (rankOf o) p) s i (omega (arith, length-map p (rankOf o))) (omega arith)
 
 -- ---- a part of the work slice
-
-part-taken : (at n k : ℕ) (w : List ℕ) → n ≡ k → take n (drop at w) ≡ part at k w
-unfolding part
-part-taken at n k w e = ap (λ (i : ℕ). take i (drop at w)) e
 
 pub same-part : (p w : List ℕ) (at n k : ℕ) → n ≡ k → same p (take n (drop at w)) ≡ true → part at k w ≡ p
 same-part p w at n k e q = sym (part-taken at n k w e) ∙ sym (same-eq p (take n (drop at w)) q)

@@ -2,7 +2,7 @@
 -- cut that is tried and fits, there is none (`cut-miss`).
 use mathlib.Core.Path.{_≡_, refl, sym, _∙_, ap, subst}
 use mathlib.Core.Bool.{true, _&&_}
-use mathlib.Core.List.{List, [], _∷_, _++_, map, List·Memᴰ as In, List·Memᴰ·head as here, List·Memᴰ·not-nil as in-nil, List·Memᴰ·eq-of-singleton as in-one}
+use mathlib.Core.List.{List, [], _∷_, _++_, map, List·Memᴰ as In, List·Memᴰ·not-nil as in-nil, List·Memᴰ·eq-of-singleton as in-one}
 use Prim.Native.Nat.{ℕ, zero, suc, _+_, _-_, _≤_, _<_, min}
 use native.Mathlib.Omega.{arith}
 use lib.ListN.{length, take, drop, length-append, length-map}
@@ -14,6 +14,7 @@ use Rattle.definitions.specs.Table.{rankOf}
 use Rattle.definitions.specs.Occurrences.{straddling, straddles, cutAt}
 use Rattle.lists.specs.Bools.{and-intro}
 use Rattle.lists.specs.Numbers.{split-lt, below-in}
+use Rattle.lists.specs.Members.{in-none}
 use Rattle.lists.specs.Parts.{part, part-length, part-append, part-part}
 use Rattle.lyndon.specs.Joins.{triedCuts, tried-suffice, straddling-cut, straddling-most, cut-at}
 use Rattle.lyndon.specs.Occurrences.{begins-at, at-begins}
@@ -21,21 +22,17 @@ use Rattle.joins.specs.Joining.{cutPlace, JoinCut}
 
 -- ---- lists with at most one member
 
-no-member : (l : List ℕ) → ((i : ℕ) → In i l → ⊥) → l ≡ []
-no-member [] h = refl
-no-member (k ∷ l) h = absurd (h k (here refl))
-
 only-member : (l : List ℕ) (i : ℕ) → In i l → length l ≤ 1 → l ≡ i ∷ []
 only-member [] i m h = absurd (in-nil m)
 only-member (k ∷ []) i m h = ap (λ (j : ℕ). j ∷ []) (sym (in-one m))
 only-member (k ∷ j ∷ l) i m h = absurd (omega arith)
 
-pub cut-place : (n c : ℕ) → 0 < c → cutPlace n c ≡ (n - c) ∷ []
+cut-place : (n c : ℕ) → 0 < c → cutPlace n c ≡ (n - c) ∷ []
 unfolding cutPlace
 cut-place n zero h = absurd (omega arith)
 cut-place n (suc c) h = refl
 
-pub cut-place-none : (n c : ℕ) → c ≡ 0 → cutPlace n c ≡ []
+cut-place-none : (n c : ℕ) → c ≡ 0 → cutPlace n c ≡ []
 unfolding cutPlace
 cut-place-none n c e = rw e
 
@@ -63,7 +60,7 @@ module _ (p w : List ℕ) (at left right : ℕ) (fits : at + left + right ≤ le
       ∙ part-part at (left + right) i (length p) w h
       ∙ ap (λ (j : ℕ). part j (length p) w) (sym e)
 
-  pub cut-hit : (c : ℕ) → 0 < c → c < length p → c ≤ left → length p ≤ c + right → part (at + left - c) (length p) w ≡ p
+  cut-hit : (c : ℕ) → 0 < c → c < length p → c ≤ left → length p ≤ c + right → part (at + left - c) (length p) w ≡ p
       → JoinCut p (part at left w) (part (at + left) right w) c
   unfolding straddling straddles
   cut-hit c z k l m e =
@@ -88,14 +85,14 @@ module _ (p w : List ℕ) (at left right : ℕ) (fits : at + left + right ≤ le
           (and-intro (begins p (drop (left - c) (u ++ v))) (ltb (left - c) (length u) && ltb (length u) (left - c + length p)) here-begins
           (and-intro (ltb (left - c) (length u)) (ltb (length u) (left - c + length p)) (lt-ltb (left - c) (length u) (omega (arith, left-size))) (lt-ltb (length u) (left - c + length p) (omega (arith, left-size)))))
 
-  pub cut-miss : (first end : ℕ) → 0 < length p → first ≡ 1 + (length p - right - 1) → end ≡ min (length p) (suc left)
+  cut-miss : (first end : ℕ) → 0 < length p → first ≡ 1 + (length p - right - 1) → end ≡ min (length p) (suc left)
       → ((d : ℕ) → first ≤ d → d < end → In d (triedCuts p) → part (at + left - d) (length p) w ≡ p → ⊥)
       → JoinCut p (part at left w) (part (at + left) right w) 0
   cut-miss first end z f g h =
       record {
         small = z;
         inside = omega arith;
-        place = λ d. straddling-cut p (triedCuts p) u v (tried-suffice p) d ∙ no-member (cutAt p (triedCuts p) u v) none ∙ sym (cut-place-none (length u) 0 refl);
+        place = λ d. straddling-cut p (triedCuts p) u v (tried-suffice p) d ∙ in-none (cutAt p (triedCuts p) u v) none ∙ sym (cut-place-none (length u) 0 refl);
       }
     where
       u : List ℕ

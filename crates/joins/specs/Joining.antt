@@ -1,5 +1,5 @@
 -- What is said of a join: the cut at which an occurrence straddles it (`JoinCut`), and the flags by which cuts are tried (`Flagged`). p is a
--- pattern as ranks, w the work slice, where the flags stand from 8,960 on.
+-- pattern as ranks, w the work slice, where the flags stand from FLAGS on.
 use mathlib.Core.Path.{_≡_}
 use mathlib.Core.List.{List, [], _∷_, List·Memᴰ as In}
 use Prim.Native.Nat.{ℕ, zero, suc, _+_, _-_, _≤_, _<_}
@@ -7,10 +7,11 @@ use lib.ListN.{length, getD}
 use Rattle.definitions.specs.Occurrences.{straddling}
 use Rattle.lyndon.specs.Factorization.{Std}
 use Rattle.lyndon.specs.Joins.{triedCuts}
+use Rattle.layout.specs.Layout.{FLAGS}
 
 -- no cut that is tried has the flag 0
 abbrev pub Flagged : List ℕ → List ℕ → Type 0
-Flagged p w = (c : ℕ) → In c (triedCuts p) → getD w (8960 + c) 0 ≡ 0 → ⊥
+Flagged p w = (c : ℕ) → In c (triedCuts p) → getD w (FLAGS + c) 0 ≡ 0 → ⊥
 
 -- the place of an occurrence cut at c at a join behind n symbols; none where c is 0
 unfoldable pub cutPlace : ℕ → ℕ → List ℕ

@@ -1,32 +1,21 @@
-// The areas of the work slice during a search, and what stands there of a rule.
-//
-//     0               ranks of the marked text                   2048 words
-//     LENGTHS  2048   length of a rule's string                  2304
-//     PLACES   4352   a place at which it stands                 2304
-//     FOUND    6656   its occurrences * 4096 + its join's cut    2304
-//     LIVE     8960   a flag for each cut                        2048
-//     TABLE    11520  the table                                  4608
-use ends::layout::KIND_1;
-use ends::layout::LENGTHS;
-use ends::layout::PLACES;
-use ends::layout::TABLE;
+// What stands in the areas of a search of a rule.
+use layout::FOUND;
+use layout::KIND;
+use layout::LENGTHS;
+use layout::PLACES;
+use layout::TABLE;
 use slices::wide;
 ghost use mathlib.Core.Path.{_≡_};
 ghost use mathlib.Core.Bool.{true, false};
 ghost use Prim.Native.Nat.{_+_, _*_, _/_, _%_, _≤_, _<_};
 ghost use lib.ListN.{getD};
-ghost use Rattle.joins.specs.Areas.{Readable, leftIn, rightIn};
-
-pub const FOUND: usize = 6656;
-
-pub const LIVE: usize = 8960;
-
-pub const LIVE_END: usize = 11008;
+ghost use Rattle.layout.specs.Layout.{TABLE, KIND, lengthIn, placeIn, countIn, joinCutIn, leftIn, rightIn};
+ghost use Rattle.joins.specs.Areas.{Readable};
 
 // The length of rule r's string.
 pub fn length_of(work: &[u32], r: usize) -> usize
     requires { ⌜ Readable (now work) r ⌝ }
-    ensures { λ n. ⌜ n ≡ getD (now (work .entry)) (2048 + r) 0 ⌝ }
+    ensures { λ n. ⌜ n ≡ lengthIn (now (work .entry)) r ⌝ }
 {
     wide(work[LENGTHS + r])
 }
@@ -34,7 +23,7 @@ pub fn length_of(work: &[u32], r: usize) -> usize
 // A place at which it stands.
 pub fn place_of(work: &[u32], r: usize) -> usize
     requires { ⌜ Readable (now work) r ⌝ }
-    ensures { λ n. ⌜ n ≡ getD (now (work .entry)) (4352 + r) 0 ⌝ }
+    ensures { λ n. ⌜ n ≡ placeIn (now (work .entry)) r ⌝ }
 {
     wide(work[PLACES + r])
 }
@@ -42,7 +31,7 @@ pub fn place_of(work: &[u32], r: usize) -> usize
 // How many occurrences it has.
 pub fn number_of(work: &[u32], r: usize) -> usize
     requires { ⌜ Readable (now work) r ⌝ }
-    ensures { λ n. ⌜ n ≡ getD (now (work .entry)) (6656 + r) 0 / 4096 ⌝ }
+    ensures { λ n. ⌜ n ≡ countIn (now (work .entry)) r ⌝ }
 {
     wide(work[FOUND + r] / 4096)
 }
@@ -50,7 +39,7 @@ pub fn number_of(work: &[u32], r: usize) -> usize
 // The cut at which one straddles its join, 0 if none does.
 pub fn cut_of(work: &[u32], r: usize) -> usize
     requires { ⌜ Readable (now work) r ⌝ }
-    ensures { λ n. ⌜ n ≡ getD (now (work .entry)) (6656 + r) 0 % 4096 ⌝ }
+    ensures { λ n. ⌜ n ≡ joinCutIn (now (work .entry)) r ⌝ }
 {
     wide(work[FOUND + r] % 4096)
 }
@@ -58,9 +47,9 @@ pub fn cut_of(work: &[u32], r: usize) -> usize
 // Whether rule r is a symbol's.
 pub fn is_symbol(work: &[u32], r: usize) -> bool
     requires { ⌜ Readable (now work) r ⌝ }
-    ensures { λ b. ⌜ (b ≡ true → getD (now (work .entry)) (11520 + 2 * r) 0 < 1073741824) × (b ≡ false → 1073741824 ≤ getD (now (work .entry)) (11520 + 2 * r) 0) ⌝ }
+    ensures { λ b. ⌜ (b ≡ true → getD (now (work .entry)) (TABLE + 2 * r) 0 < KIND) × (b ≡ false → KIND ≤ getD (now (work .entry)) (TABLE + 2 * r) 0) ⌝ }
 {
-    work[TABLE + 2 * r] < KIND_1
+    work[TABLE + 2 * r] < KIND
 }
 
 // Its left half, where it is a pair.
@@ -68,7 +57,7 @@ pub fn left_of(work: &[u32], r: usize) -> usize
     requires { ⌜ Readable (now work) r ⌝ }
     ensures { λ n. ⌜ n ≡ leftIn (now (work .entry)) r ⌝ }
 {
-    wide(work[TABLE + 2 * r] % KIND_1)
+    wide(work[TABLE + 2 * r] % KIND)
 }
 
 // Its right half.
@@ -76,5 +65,5 @@ pub fn right_of(work: &[u32], r: usize) -> usize
     requires { ⌜ Readable (now work) r ⌝ }
     ensures { λ n. ⌜ n ≡ rightIn (now (work .entry)) r ⌝ }
 {
-    wide(work[TABLE + 2 * r + 1] % KIND_1)
+    wide(work[TABLE + 2 * r + 1] % KIND)
 }

@@ -1,9 +1,9 @@
-// Testing a join: whether a pattern straddles two strings that stand one behind the other, and at which of its live cuts.
+// Testing a join: whether a pattern straddles two strings that stand one behind the other, a standard factorization, and at which of its live cuts.
 pub mod areas;
 
-use areas::LIVE;
 use definitions::Order;
-use ends::rank_of;
+use layout::FLAGS;
+use ranks::rank_of;
 ghost use mathlib.Core.Path.{_≡_};
 ghost use mathlib.Core.Bool.{true, false};
 ghost use mathlib.Core.List.{map, List·Memᴰ as In};
@@ -13,10 +13,11 @@ ghost use Rattle.definitions.specs.Words.{same};
 ghost use Rattle.definitions.specs.Table.{rankOf};
 ghost use Rattle.lists.specs.Parts.{part};
 ghost use Rattle.lyndon.specs.Joins.{triedCuts};
+ghost use Rattle.layout.specs.Layout.{WORK};
 ghost use Rattle.joins.specs.Joining.{Flagged, JoinCut};
 
-// The cut at which the pattern straddles the join of two strings that stand one behind the other, 0 if it does not. Live cuts are tried
-// upwards, where both parts of the pattern fit; at most one occurrence straddles.
+// The cut at which the pattern straddles the join of two such strings, 0 if it does not. Live cuts are tried upwards, where both parts of the
+// pattern fit; at most one occurrence straddles.
 pub fn cut_at_join(
     order: Order,
     pattern: &[u8],
@@ -25,7 +26,7 @@ pub fn cut_at_join(
     left: usize,
     right: usize,
 ) -> usize
-    requires { ⌜ (0 < length (now pattern)) × (length (now pattern) ≤ 2047) × Flagged (map (rankOf order) (now pattern)) (now work) × (at + left + right ≤ 2048) × (16384 ≤ length (now work)) ⌝ }
+    requires { ⌜ (0 < length (now pattern)) × (length (now pattern) ≤ 2047) × Flagged (map (rankOf order) (now pattern)) (now work) × (at + left + right ≤ 2048) × (WORK ≤ length (now work)) ⌝ }
     ensures { λ c. ⌜ JoinCut (map (rankOf order) (now (pattern .entry))) (part at left (now (work .entry))) (part (at + left) right (now (work .entry))) c ⌝ }
 {
     let m = pattern.len();
@@ -64,10 +65,10 @@ fn end_of_cuts(m: usize, left: usize) -> usize
 
 // Whether cut c is live and the pattern stands at a place.
 fn is_cut(order: Order, pattern: &[u8], work: &[u32], c: usize, at: usize) -> bool
-    requires { ⌜ Flagged (map (rankOf order) (now pattern)) (now work) × (c < length (now pattern)) × (length (now pattern) ≤ 2047) × (at + length (now pattern) ≤ 2048) × (16384 ≤ length (now work)) ⌝ }
+    requires { ⌜ Flagged (map (rankOf order) (now pattern)) (now work) × (c < length (now pattern)) × (length (now pattern) ≤ 2047) × (at + length (now pattern) ≤ 2048) × (WORK ≤ length (now work)) ⌝ }
     ensures { λ b. ⌜ (b ≡ true → part at (length (now (pattern .entry))) (now (work .entry)) ≡ map (rankOf order) (now (pattern .entry))) × (b ≡ false → In c (triedCuts (map (rankOf order) (now (pattern .entry)))) → part at (length (now (pattern .entry))) (now (work .entry)) ≡ map (rankOf order) (now (pattern .entry)) → ⊥) ⌝ }
 {
-    if work[LIVE + c] == 0 {
+    if work[FLAGS + c] == 0 {
         return false;
     }
     let end = at + pattern.len();

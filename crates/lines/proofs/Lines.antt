@@ -14,7 +14,7 @@ use Rattle.definitions.specs.Programs.{digits, digitCount, decimal, line, named
 
 -- ---- lengths
 
-pub digits-length : (k n : ℕ) → length (digits k n) ≡ k
+digits-length : (k n : ℕ) → length (digits k n) ≡ k
 unfolding digits
 digits-length zero n = refl
 digits-length (suc k) n = length-append (digits k (n / 10)) ((48 + n % 10) ∷ []) ∙ omega (arith, digits-length k (n / 10))
@@ -29,7 +29,7 @@ count-range n = go (ltb n 10) (ltb n 100) (ltb n 1000)
     go false false true = (omega arith, omega arith)
     go false false false = (omega arith, omega arith)
 
-pub line-length : (n : ℕ) → length (line (decimal n)) ≡ digitCount n + 1
+line-length : (n : ℕ) → length (line (decimal n)) ≡ digitCount n + 1
 unfolding line decimal
 line-length n = length-append (digits (digitCount n) n) (10 ∷ []) ∙ ap (λ (k : ℕ). k + 1) (digits-length (digitCount n) n)
 
@@ -82,7 +82,7 @@ lines-append [] m = refl
 lines-append (n ∷ l) m =
     ap (λ (r : List ℕ). line (decimal n) ++ r) (lines-append l m) ∙ sym (append-assoc (line (decimal n)) (decimalLines l) (decimalLines m))
 
-pub lines-more : (l : List ℕ) (i : ℕ) → i < length l → decimalLines (take (i + 1) l) ≡ decimalLines (take i l) ++ line (decimal (getD l i 0))
+lines-more : (l : List ℕ) (i : ℕ) → i < length l → decimalLines (take (i + 1) l) ≡ decimalLines (take i l) ++ line (decimal (getD l i 0))
 unfolding decimalLines
 lines-more l i h =
     ap (λ (k : ℕ). decimalLines (take k l)) (add-one i)

@@ -48,7 +48,7 @@ pub fn put_named(name: &[u8], number: usize, out: &mut [u8]) -> usize
 }
 
 // Bytes as they are.
-pub fn put_bytes(bytes: &[u8], out: &mut [u8]) -> usize
+fn put_bytes(bytes: &[u8], out: &mut [u8]) -> usize
     requires { ⌜ length (now bytes) ≤ length (now out) ⌝ }
     ensures { λ n. ⌜ n ≡ length (now (bytes .entry)) ⌝ }
     ensures { λ _. ⌜ now (out .exit) ≡ placed (now (bytes .entry)) (now (out .entry)) ⌝ }
@@ -62,7 +62,7 @@ pub fn put_bytes(bytes: &[u8], out: &mut [u8]) -> usize
 }
 
 // A number on a line.
-pub fn put_decimal_line(number: usize, out: &mut [u8]) -> usize
+fn put_decimal_line(number: usize, out: &mut [u8]) -> usize
     requires { ⌜ (number < 10000) × (5 ≤ length (now out)) ⌝ }
     ensures { λ n. ⌜ n ≡ length (line (decimal number)) ⌝ }
     ensures { λ _. ⌜ now (out .exit) ≡ placed (line (decimal number)) (now (out .entry)) ⌝ }

@@ -2,12 +2,12 @@
 -- occurrences in a rule, or of those behind its left half. w is the work slice, `old` and `new` the slice lent before and after.
 use mathlib.Core.Path.{_≡_}
 use mathlib.Core.List.{List, _++_, map}
-use Prim.Native.Nat.{ℕ, _+_, _-_, _*_, _/_, _%_, _≤_, _<_, min}
-use lib.ListN.{length, getD}
+use Prim.Native.Nat.{ℕ, _+_, _-_, _*_, _≤_, _<_, min}
+use lib.ListN.{getD}
 use Rattle.definitions.specs.declared.Order.{Order}
 use Rattle.definitions.specs.Words.{placed}
-use Rattle.definitions.specs.Table.{rankOf, tableOf}
-use Rattle.joins.specs.Areas.{rightIn}
+use Rattle.definitions.specs.Table.{rankOf, tableOf, ruleCount}
+use Rattle.layout.specs.Layout.{TABLE, KIND, lengthIn, countIn, joinCutIn, rightIn}
 use Rattle.joins.specs.Joining.{cutPlace}
 use Rattle.search.specs.Found.{occursIn}
 use Rattle.search.specs.Searching.{Searched}
@@ -24,34 +24,37 @@ pub record Finds (w : List ℕ) : Type 0 where
 unfoldable pub inDrive : ℕ → List ℕ → List ℕ
 inDrive at l = map (λ (k : ℕ). at + k - 1) l
 
--- the table and the occurrences in rule r, of a search that is done
+-- the table, its number of rules, and the occurrences in rule r, of a search that is done
 abbrev pub tableFor : (w : List ℕ) → Finds w → List ℕ
 tableFor w h = tableOf (h .order) (h .text) (h .chair)
+
+abbrev pub rulesCounted : {w : List ℕ} → Finds w → ℕ
+rulesCounted h = ruleCount (tableOf (h .order) (h .text) (h .chair))
 
 unfoldable pub foundFor : (w : List ℕ) → Finds w → ℕ → List ℕ
 foundFor w h r = occursIn (h .order) (tableFor w h) (map (rankOf (h .order)) (h .pattern)) r
 
 -- rule r, which stands at `at`, can be listed into so many entries
-pub record Lists (w : List ℕ) (r at entries : ℕ) : Type 0 where
+pub record Listable (w : List ℕ) (r at entries : ℕ) : Type 0 where
   pub finds : Finds w
-  pub low : r < length (tableFor w finds) / 2
-  pub inside : at + getD w (2048 + r) 0 ≤ 2048
-  pub room : getD w (6656 + r) 0 / 4096 ≤ entries
+  pub low : r < ruleCount (tableFor w finds)
+  pub inside : at + lengthIn w r ≤ 2048
+  pub room : countIn w r ≤ entries
 
 pub record Listed (w : List ℕ) (r at n : ℕ) (old new : List ℕ) : Type 0 where
-  pub number : n ≡ getD w (6656 + r) 0 / 4096
-  pub front : (h : Finds w) → r < length (tableFor w h) / 2 → new ≡ placed (inDrive at (foundFor w h r)) old
+  pub number : n ≡ countIn w r
+  pub front : (h : Finds w) → r < ruleCount (tableFor w h) → new ≡ placed (inDrive at (foundFor w h r)) old
 
 -- the same of what a pair rule has behind its left half; its join is at `join`
-pub record ListsRest (w : List ℕ) (r join entries : ℕ) : Type 0 where
+pub record RestListable (w : List ℕ) (r join entries : ℕ) : Type 0 where
   pub finds : Finds w
-  pub low : r < length (tableFor w finds) / 2
-  pub is-pair : 1073741824 ≤ getD w (11520 + 2 * r) 0
-  pub inside : join + getD w (2048 + rightIn w r) 0 ≤ 2048
-  pub cut : getD w (6656 + r) 0 % 4096 ≤ join
-  pub room : min 1 (getD w (6656 + r) 0 % 4096) + getD w (6656 + rightIn w r) 0 / 4096 ≤ entries
+  pub low : r < ruleCount (tableFor w finds)
+  pub is-pair : KIND ≤ getD w (TABLE + 2 * r) 0
+  pub inside : join + lengthIn w (rightIn w r) ≤ 2048
+  pub cut : joinCutIn w r ≤ join
+  pub room : min 1 (joinCutIn w r) + countIn w (rightIn w r) ≤ entries
 
 pub record ListedRest (w : List ℕ) (r join n : ℕ) (old new : List ℕ) : Type 0 where
-  pub number : n ≡ min 1 (getD w (6656 + r) 0 % 4096) + getD w (6656 + rightIn w r) 0 / 4096
-  pub front : (h : Finds w) → r < length (tableFor w h) / 2
-      → new ≡ placed (inDrive 0 (cutPlace join (getD w (6656 + r) 0 % 4096)) ++ inDrive join (foundFor w h (rightIn w r))) old
+  pub number : n ≡ min 1 (joinCutIn w r) + countIn w (rightIn w r)
+  pub front : (h : Finds w) → r < ruleCount (tableFor w h)
+      → new ≡ placed (inDrive 0 (cutPlace join (joinCutIn w r)) ++ inDrive join (foundFor w h (rightIn w r))) old

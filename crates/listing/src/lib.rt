@@ -8,25 +8,24 @@ use joins::areas::number_of;
 use joins::areas::right_of;
 ghost use mathlib.Core.Path.{_≡_};
 ghost use mathlib.Core.List.{[], _∷_};
-ghost use Prim.Native.Nat.{_-_, _/_, _≤_, _<_, min};
+ghost use Prim.Native.Nat.{_-_, _≤_, _<_, min};
 ghost use lib.ListN.{length};
 ghost use Rattle.definitions.specs.Words.{placed};
-ghost use Rattle.definitions.specs.Table.{tableOf};
 ghost use Rattle.definitions.specs.Occurrences.{occurrences};
 ghost use Rattle.joins.specs.Joining.{cutPlace};
-ghost use Rattle.listing.specs.Listing.{Finds, inDrive, Lists, Listed, ListsRest, ListedRest};
+ghost use Rattle.listing.specs.Listing.{Finds, inDrive, Listable, Listed, RestListable, ListedRest, rulesCounted};
 
 // Writes the positions at which the pattern begins in the drive, rising, at the front of a slice. Answers how many there are.
 pub fn list(work: &[u32], rules: usize, result: &mut [u32]) -> usize
-    requires { ⌜ ((h : Finds (now work)) × (rules ≡ length (tableOf (h .order) (h .text) (h .chair)) / 2) × (length (occurrences (h .pattern) (h .text)) ≤ length (now result))) ⌝ }
-    ensures { λ n. ⌜ ((h : Finds (now (work .entry))) → rules ≡ length (tableOf (h .order) (h .text) (h .chair)) / 2 → (n ≡ length (occurrences (h .pattern) (h .text))) × (now (result .exit) ≡ placed (occurrences (h .pattern) (h .text)) (now (result .entry)))) ⌝ }
+    requires { ⌜ ((h : Finds (now work)) × (rules ≡ rulesCounted h) × (length (occurrences (h .pattern) (h .text)) ≤ length (now result))) ⌝ }
+    ensures { λ n. ⌜ ((h : Finds (now (work .entry))) → rules ≡ rulesCounted h → (n ≡ length (occurrences (h .pattern) (h .text))) × (now (result .exit) ≡ placed (occurrences (h .pattern) (h .text)) (now (result .entry)))) ⌝ }
 {
     list_rule(work, rules - 1, 0, result)
 }
 
 // The same for the occurrences in rule r, whose string stands at `at` in the marked text: those in the left half, then the rest.
 fn list_rule(work: &[u32], r: usize, at: usize, result: &mut [u32]) -> usize
-    requires { ⌜ Lists (now work) r at (length (now result)) ⌝ }
+    requires { ⌜ Listable (now work) r at (length (now result)) ⌝ }
     ensures { λ n. ⌜ Listed (now (work .entry)) r at n (now (result .entry)) (now (result .exit)) ⌝ }
 {
     if number_of(work, r) == 0 {
@@ -43,7 +42,7 @@ fn list_rule(work: &[u32], r: usize, at: usize, result: &mut [u32]) -> usize
 
 // The same for the occurrence at the join of rule r, then those in its right half. The join stands at `join` in the marked text.
 fn list_rest(work: &[u32], r: usize, join: usize, result: &mut [u32]) -> usize
-    requires { ⌜ ListsRest (now work) r join (length (now result)) ⌝ }
+    requires { ⌜ RestListable (now work) r join (length (now result)) ⌝ }
     ensures { λ n. ⌜ ListedRest (now (work .entry)) r join n (now (result .entry)) (now (result .exit)) ⌝ }
 {
     let n = list_cut(result, join, cut_of(work, r));

@@ -6,3 +6,4 @@ pub mod Strings
 pub mod Sameness
 pub mod Parts
 pub mod Newest
+pub mod Decisions

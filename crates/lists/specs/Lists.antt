@@ -1,4 +1,4 @@
--- Laws of lists: how two splits of one list overlap, and the front of a slice, `placed`.
+-- Laws of lists: how two splits of one list overlap, lists with more behind (`Extends`), and the front of a slice, `placed`.
 use mathlib.Core.Path.{_≡_, refl, sym, _∙_, ap, ap₂}
 use mathlib.Core.List.{List, [], _∷_, _++_, append-assoc, append-nil, head-eq-of-cons-eq, tail-eq-of-cons-eq}
 use Prim.Native.Nat.{ℕ, suc, _+_, _-_, _≤_, _<_}
@@ -45,6 +45,16 @@ module _ {ℓ} {A : Type ℓ} where
   split-same-right [] s (b ∷ u) v e h = absurd (omega arith)
   split-same-right (a ∷ p) s [] v e h = absurd (omega arith)
   split-same-right (a ∷ p) s (b ∷ u) v e h = split-same-right p s u v (tail-eq-of-cons-eq e) (omega arith)
+
+  -- m is l with more behind
+  abbrev pub Extends : List A → List A → Type ℓ
+  Extends l m = (x : List A) × (m ≡ l ++ x)
+
+  pub extends-self : (l : List A) → Extends l l
+  extends-self l = ([], sym (append-nil l))
+
+  pub extends-trans : (l m n : List A) → Extends l m → Extends m n → Extends l n
+  extends-trans l m n (x, e) (y, f) = (x ++ y, f ∙ ap (λ (z : List A). z ++ y) e ∙ append-assoc l x y)
 
   -- ---- the front of a slice
 

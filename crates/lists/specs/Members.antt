@@ -1,10 +1,10 @@
--- Members of a list of numbers: at an index, in a mapped list, behind a place.
-use mathlib.Core.Path.{_≡_, refl, sym}
+-- Members of a list of numbers: at an index, in a mapped list, behind a place; a list without one. A mapped list, its fronts and rests.
+use mathlib.Core.Path.{_≡_, refl, sym, ap}
 use mathlib.Core.Logic.{_⊎_, inl, inr}
 use mathlib.Core.List.{List, [], _∷_, map, List·Memᴰ as In, List·Memᴰ·head as here, List·Memᴰ·tail as there, List·Memᴰ·not-nil as in-nil, List·Memᴰ·cases-cons as in-cons}
 use Prim.Native.Nat.{ℕ, zero, suc, _<_}
 use native.Mathlib.Omega.{arith}
-use lib.ListN.{length, drop, getD}
+use lib.ListN.{length, take, drop, getD}
 
 pub in-at : (b : ℕ) (l : List ℕ) → In b l → (i : ℕ) × (i < length l) × (getD l i 0 ≡ b)
 in-at b [] m = absurd (in-nil m)
@@ -27,6 +27,16 @@ in-map f r (a ∷ l) m = go (in-cons m) (λ k. in-map f r l k)
     go (inl e) ih = (a, here refl, e)
     go (inr k) ih = let (b, i, e) = ih k in (b, there i, e)
 
+pub map-at : (f : ℕ → ℕ) (l : List ℕ) (i : ℕ) → i < length l → getD (map f l) i 0 ≡ f (getD l i 0)
+map-at f [] i h = absurd (omega arith)
+map-at f (a ∷ l) zero h = refl
+map-at f (a ∷ l) (suc i) h = map-at f l i (omega arith)
+
+pub take-map : (f : ℕ → ℕ) (n : ℕ) (l : List ℕ) → take n (map f l) ≡ map f (take n l)
+take-map f zero l = refl
+take-map f (suc n) [] = refl
+take-map f (suc n) (a ∷ l) = ap {B = List ℕ} (λ m. f a ∷ m) (take-map f n l)
+
 pub drop-map : (f : ℕ → ℕ) (i : ℕ) (l : List ℕ) → drop i (map f l) ≡ map f (drop i l)
 drop-map f zero l = refl
 drop-map f (suc i) [] = refl
@@ -36,3 +46,7 @@ pub in-drop : (i : ℕ) (l : List ℕ) (b : ℕ) → In b (drop i l) → In b l
 in-drop zero l b m = m
 in-drop (suc i) [] b m = m
 in-drop (suc i) (a ∷ l) b m = there (in-drop i l b m)
+
+pub in-none : (l : List ℕ) → ((i : ℕ) → In i l → ⊥) → l ≡ []
+in-none [] h = refl
+in-none (a ∷ l) h = absurd (h a (here refl))

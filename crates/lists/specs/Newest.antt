@@ -63,7 +63,7 @@ unfolding latest
 latest-ext f g zero h = refl
 latest-ext f g (suc n) h = ap₂ {C = ℕ} (λ b m. cond b (suc n) m) (h n (omega arith)) (latest-ext f g n (λ k l. h k (omega arith)))
 
-pub latest-only : (f : ℕ → Bool) (n r : ℕ) → r < n → f r ≡ true → ((k : ℕ) → k < n → f k ≡ true → k ≡ r) → latest f n ≡ suc r
+latest-only : (f : ℕ → Bool) (n r : ℕ) → r < n → f r ≡ true → ((k : ℕ) → k < n → f k ≡ true → k ≡ r) → latest f n ≡ suc r
 unfolding latest
 latest-only f zero r h e only = absurd (omega arith)
 latest-only f (suc n) r h e only = split-lt r n
@@ -71,7 +71,7 @@ latest-only f (suc n) r h e only = split-lt r n
     (λ q. latest-true f n (subst (λ (k : ℕ). f k ≡ true) q e) ∙ ap suc (sym q))
     (λ l. absurd (omega arith))
 
-pub latest-none : (f : ℕ → Bool) (n : ℕ) → ((k : ℕ) → k < n → f k ≡ false) → latest f n ≡ 0
+latest-none : (f : ℕ → Bool) (n : ℕ) → ((k : ℕ) → k < n → f k ≡ false) → latest f n ≡ 0
 unfolding latest
 latest-none f zero h = refl
 latest-none f (suc n) h = latest-false f n (h n (omega arith)) ∙ latest-none f n (λ k l. h k (omega arith))

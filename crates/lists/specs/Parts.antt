@@ -12,6 +12,11 @@ module _ {ℓ} {A : Type ℓ} where
   unfoldable pub part : ℕ → ℕ → List A → List A
   part o n w = take n (drop o w)
 
+  -- as code takes it
+  pub part-taken : (o m n : ℕ) (w : List A) → m ≡ n → take m (drop o w) ≡ part o n w
+  unfolding part
+  part-taken o m n w e = ap (λ (k : ℕ). take k (drop o w)) e
+
   pub part-length : (o n : ℕ) (w : List A) → o + n ≤ length w → length (part o n w) ≡ n
   unfolding part
   part-length o n w h = simp (length-take, length-drop) (omega arith)
@@ -57,7 +62,7 @@ module _ {ℓ} {A : Type ℓ} where
   unfolding part
   part-none o w = refl
 
-  drop-take : (p k : ℕ) (l : List A) → drop p (take (p + k) l) ≡ take k (drop p l)
+  pub drop-take : (p k : ℕ) (l : List A) → drop p (take (p + k) l) ≡ take k (drop p l)
   drop-take zero k l = rw zero-add
   drop-take (suc p) k [] = rw (take-nil, take-nil)
   drop-take (suc p) k (a ∷ l) = rw suc-add (drop-take p k l)

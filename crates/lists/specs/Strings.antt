@@ -33,7 +33,7 @@ begins-rest (a ∷ p) (b ∷ s) e =
     let (r, q) = begins-rest p s (and-right (eqb a b) (begins p s) e) in
     (r, ap₂ {C = List ℕ} (λ c l. c ∷ l) (sym (eqb-true a b (and-left (eqb a b) (begins p s) e))) q)
 
-pub begins-append : (p r : List ℕ) → begins p (p ++ r) ≡ true
+begins-append : (p r : List ℕ) → begins p (p ++ r) ≡ true
 unfolding begins
 begins-append [] r = refl
 begins-append (a ∷ p) r = and-intro (eqb a a) (begins p (p ++ r)) (eq-eqb a a refl) (begins-append p r)

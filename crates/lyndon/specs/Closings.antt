@@ -6,8 +6,9 @@ use mathlib.Core.List.{List, [], _∷_, _++_, append-assoc, append-nil}
 use Prim.Native.Nat.{ℕ, zero, suc, _+_, _-_, _≤_, _<_}
 use native.Mathlib.Omega.{arith}
 use lib.ListN.{length, length-append}
-use Rattle.lists.specs.Numbers.{split-le}
 use Rattle.definitions.specs.Grammar.{Tree, leaf, node, word, lyndonTree, Rule, symbol, pair, rulesOf}
+use Rattle.lists.specs.Lists.{Extends, extends-self, extends-trans}
+use Rattle.lists.specs.Numbers.{split-le}
 use Rattle.lyndon.specs.Words.{Lyndon}
 use Rattle.lyndon.specs.Trees.{word-filled, tree-of}
 use Rattle.lyndon.specs.Forest.{forest, forest-one, spells}
@@ -27,7 +28,7 @@ unfoldable pub sum : List ℕ → ℕ
 sum [] = 0
 sum (n ∷ l) = n + sum l
 
-pub sum-append : (l m : List ℕ) → sum (l ++ m) ≡ sum l + sum m
+sum-append : (l m : List ℕ) → sum (l ++ m) ≡ sum l + sum m
 unfolding sum
 sum-append [] m = omega arith
 sum-append (n ∷ l) m = omega (arith, sum-append l m)
@@ -55,7 +56,7 @@ forest-sum (t ∷ f) =
     let it = closings-sum 0 t in
     simp (length-append, sum-append) (omega arith)
 
-pub closingsOf-length : (f : List Tree) → length (closingsOf f) ≡ length (spells f)
+closingsOf-length : (f : List Tree) → length (closingsOf f) ≡ length (spells f)
 unfolding closingsOf spells
 closingsOf-length [] = refl
 closingsOf-length (t ∷ f) = simp length-append (ap₂ {C = ℕ} (λ m n. m + n) (closings-length 0 t) (closingsOf-length f))
@@ -106,7 +107,7 @@ pub merge-closings : (l r : Tree) → closings 0 (node l r) ≡ closings 0 l ++ 
 unfolding closings
 merge-closings l r = ap (λ (x : List ℕ). closings 0 l ++ x) (closings-bump 0 r)
 
--- ---- the machine: rules so far, and a stack of rule numbers, the top first
+-- ---- the pass from left to right: rules so far, and a stack of rule numbers, the top first
 
 pub record State : Type 0 where
   pub rules : List Rule
@@ -136,35 +137,32 @@ run s (a ∷ w) [] = s
 run s (a ∷ w) (k ∷ c) = run (joins k (push (s .rules) (symbol a) (s .stack))) w c
 
 -- the rules only grow
-intern-extends : (K : List Rule) (x : Rule) → (M : List Rule) × (intern K x ≡ K ++ M)
+intern-extends : (K : List Rule) (x : Rule) → Extends K (intern K x)
 intern-extends K x = split-le (length K) (find x K)
     (λ h. (x ∷ [], intern-new K x h))
-    (λ h. ([], intern-old K x h ∙ sym (append-nil K)))
+    (λ h. rw (intern-old K x h) (extends-self K))
 
-join-extends : (K : List Rule) (stack : List ℕ) → (M : List Rule) × (joinTop K stack .rules ≡ K ++ M)
+join-extends : (K : List Rule) (stack : List ℕ) → Extends K (joinTop K stack .rules)
 unfolding joinTop push
-join-extends K [] = ([], sym (append-nil K))
-join-extends K (j ∷ []) = ([], sym (append-nil K))
+join-extends K [] = extends-self K
+join-extends K (j ∷ []) = extends-self K
 join-extends K (j ∷ i ∷ stack) = intern-extends K (pair i j)
 
-extend : (K L M : List Rule) → (A : List Rule) × (L ≡ K ++ A) → (B : List Rule) × (M ≡ L ++ B) → (C : List Rule) × (M ≡ K ++ C)
-extend K L M (A, e) (B, f) = (A ++ B, f ∙ ap (λ (X : List Rule). X ++ B) e ∙ append-assoc K A B)
-
-pub joins-extends : (k : ℕ) (s : State) → (M : List Rule) × (joins k s .rules ≡ s .rules ++ M)
+pub joins-extends : (k : ℕ) (s : State) → Extends (s .rules) (joins k s .rules)
 unfolding joins
-joins-extends zero s = ([], sym (append-nil (s .rules)))
+joins-extends zero s = extends-self (s .rules)
 joins-extends (suc k) s =
-    extend (s .rules) (joinTop (s .rules) (s .stack) .rules) (joins k (joinTop (s .rules) (s .stack)) .rules)
+    extends-trans (s .rules) (joinTop (s .rules) (s .stack) .rules) (joins k (joinTop (s .rules) (s .stack)) .rules)
     (join-extends (s .rules) (s .stack)) (joins-extends k (joinTop (s .rules) (s .stack)))
 
-pub run-extends : (s : State) (w c : List ℕ) → (M : List Rule) × (run s w c .rules ≡ s .rules ++ M)
+pub run-extends : (s : State) (w c : List ℕ) → Extends (s .rules) (run s w c .rules)
 unfolding run push
-run-extends s [] c = ([], sym (append-nil (s .rules)))
-run-extends s (a ∷ w) [] = ([], sym (append-nil (s .rules)))
+run-extends s [] c = extends-self (s .rules)
+run-extends s (a ∷ w) [] = extends-self (s .rules)
 run-extends s (a ∷ w) (k ∷ c) =
     let t = push (s .rules) (symbol a) (s .stack) in
-    extend (s .rules) (joins k t .rules) (run (joins k t) w c .rules)
-    (extend (s .rules) (t .rules) (joins k t .rules) (intern-extends (s .rules) (symbol a)) (joins-extends k t))
+    extends-trans (s .rules) (joins k t .rules) (run (joins k t) w c .rules)
+    (extends-trans (s .rules) (t .rules) (joins k t .rules) (intern-extends (s .rules) (symbol a)) (joins-extends k t))
     (run-extends (joins k t) w c)
 
 -- each join leaves one less on the stack
@@ -183,7 +181,7 @@ joins-depth (suc k) s h =
     omega arith
 
 -- the state once a tree is numbered and its root's rule is pushed
-unfoldable pub pushed : State → Tree → State
+unfoldable pushed : State → Tree → State
 pushed s t = record { rules = number (s .rules) t .0; stack = number (s .rules) t .1 ∷ s .stack }
 
 run-tree : (s : State) (k : ℕ) (t : Tree) (w c : List ℕ) → run s (word t ++ w) (closings k t ++ c) ≡ run (joins k (pushed s t)) w c

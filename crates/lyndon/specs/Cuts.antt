@@ -50,6 +50,17 @@ is-not-greater x y (inr (inl (r, e))) =
 is-not-greater x y (inr (inr d)) =
     or-right (begins x y) (begins y x || lexlt x y) (or-right (begins y x) (lexlt x y) (lt-lexlt x y (dif-lt x y d)))
 
+-- so where y is not smaller at a difference
+pub not-greater : (x y : List ℕ) → (Dif y x → ⊥) → NotGreaterAtDifference x y
+not-greater x y h = go (compared x y)
+  where
+    go : Compare x y → NotGreaterAtDifference x y
+    go (equal e) = inl ([], sym e ∙ sym (append-nil x))
+    go (prefix r n e) = inl (r, e)
+    go (extends r n e) = inr (inl (r, e))
+    go (smaller d) = inr (inr d)
+    go (greater d) = absurd (h d)
+
 -- c is a cut, and beside every other cut d its tail is not after d's
 abbrev pub Live : List ℕ → ℕ → Type 0
 Live p c = (0 < c) × (c < length p) × ((d : ℕ) → 0 < d → d < length p → (d ≡ c → ⊥) → NotGreaterAtDifference (drop c p) (drop d p))
@@ -163,7 +174,7 @@ straddle-live p u v i std s = (s .front-filled, omega (arith, size, s .rest-fill
     tail = ap (drop (length (s .front))) (s .cut) ∙ drop-append-seam (s .front) (s .rest)
 
     beside : (d : ℕ) → 0 < d → d < length p → (d ≡ length (s .front) → ⊥) → NotGreaterAtDifference (drop (length (s .front)) p) (drop d p)
-    beside d hd k n = subst (λ (x : List ℕ). NotGreaterAtDifference x y) (sym tail) (go (compared (s .rest) y))
+    beside d hd k n = subst (λ (x : List ℕ). NotGreaterAtDifference x y) (sym tail) (not-greater (s .rest) y not-smaller)
       where
         y : List ℕ
         y = drop d p
@@ -182,13 +193,6 @@ straddle-live p u v i std s = (s .front-filled, omega (arith, size, s .rest-fill
             (λ e. lt-irrefl v (subst (λ (x : List ℕ). Lt x v) e l))
             (λ m. lt-asym v (y ++ s .behind) m l)
             (std .least (s .before ++ take d p) (y ++ s .behind) (simp (length-append, length-take) (omega arith)) (simp (length-append, length-drop) (omega arith)) suffix)
-
-        go : Compare (s .rest) y → NotGreaterAtDifference (s .rest) y
-        go (equal e) = inl ([], sym e ∙ sym (append-nil (s .rest)))
-        go (prefix r h e) = inl (r, e)
-        go (extends r h e) = inr (inl (r, e))
-        go (smaller z) = inr (inr z)
-        go (greater z) = absurd (not-smaller z)
 
 -- at most one occurrence straddles: with m between the two cuts, v begins with m and u ends with it, so m ++ v, a suffix, would be
 -- both smaller and greater than v

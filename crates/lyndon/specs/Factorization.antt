@@ -47,7 +47,7 @@ std-longest u v d p s hp e l = split-le (length s) (length v) (λ h. h) (λ h. l
         (d .least p s hp (omega arith) e)
 
 -- every word of two or more symbols has a smallest proper suffix
-pub std-exists : (w : List ℕ) → 2 ≤ length w → (u : List ℕ) × (v : List ℕ) × (w ≡ u ++ v) × Std u v
+std-exists : (w : List ℕ) → 2 ≤ length w → (u : List ℕ) × (v : List ℕ) × (w ≡ u ++ v) × Std u v
 std-exists [] h = absurd (omega arith)
 std-exists (a ∷ []) h = absurd (omega arith)
 std-exists (a ∷ b ∷ []) h =
@@ -119,7 +119,7 @@ longest-std u v hu l longest = go (std-exists (u ++ v) (simp length-append (omeg
 
 -- ---- the definition's cut and parts
 
-pub std-cut : (u v : List ℕ) → Std u v → cutOf (u ++ v) ≡ length u
+std-cut : (u v : List ℕ) → Std u v → cutOf (u ++ v) ≡ length u
 unfolding cutOf
 std-cut u v d = least-is test (length (u ++ v)) (length u) (simp length-append (omega (arith, d .right))) here before
   where

@@ -14,11 +14,11 @@ use Rattle.definitions.specs.Table.{textOf}
 use Rattle.definitions.specs.Occurrences.{occurrences}
 use Rattle.definitions.specs.Services.{done, firstMet, outcome, resultAfter, tableChecks, patternChecks, countService, locateService}
 use Rattle.lists.specs.Numbers.{Rising}
-use Rattle.lyndon.specs.Reading.{Passes}
+use Rattle.lyndon.specs.Reading.{Acceptable}
 use Rattle.lyndon.specs.Occurrences.{BeginsAt, occurrence, occurrences-rising, none-before, none-between, none-after, empty-nowhere}
 
 -- what is demanded of the list l of the occurrences of p in s
-pub record Listed (p s l : List ℕ) : Type 0 where
+pub record AllOccurrences (p s l : List ℕ) : Type 0 where
   -- a position stands in it exactly when the pattern begins there
   pub exactly : (i : ℕ) → In i l ↔ BeginsAt p s i
   -- positions rise, so each stands once
@@ -30,7 +30,7 @@ pub record Listed (p s l : List ℕ) : Type 0 where
   -- it is empty exactly when the pattern begins nowhere
   pub empty : (l ≡ []) ↔ ((i : ℕ) → BeginsAt p s i → ⊥)
 
-pub listed : (p s : List ℕ) → Listed p s (occurrences p s)
+pub listed : (p s : List ℕ) → AllOccurrences p s (occurrences p s)
 listed p s =
     record {
       exactly = occurrence p s;
@@ -44,7 +44,7 @@ listed p s =
 same-number : (a b : ℕ) → done a 0 ≡ done b 0 → a ≡ b
 same-number a b e = cc
 
-module _ (o : Order) (t p : List ℕ) (n : ℕ) (accepted : Passes o t) (filled : 0 < length p) (short : length p ≤ 2047) (work : 16384 ≤ n) where
+module _ (o : Order) (t p : List ℕ) (n : ℕ) (accepted : Acceptable o t) (filled : 0 < length p) (short : length p ≤ 2047) (work : 16384 ≤ n) where
   abbrev finds : List ℕ
   finds = occurrences p (textOf o t)
 
@@ -71,8 +71,8 @@ module _ (o : Order) (t p : List ℕ) (n : ℕ) (accepted : Passes o t) (filled 
 
     pub returned : (k : ℕ) (l : List ℕ) → outcome (locateService o t p n (length result)) ≡ done k 0
         → l ≡ take k (resultAfter (locateService o t p n (length result)) result)
-        → Listed p (textOf o t) l × (length l ≡ k) × (outcome (countService o t p n) ≡ done (length l) 0)
+        → AllOccurrences p (textOf o t) l × (length l ≡ k) × (outcome (countService o t p n) ≡ done (length l) 0)
     returned k l e f =
         let q : length finds ≡ k = same-number (length finds) k (sym located ∙ e) in
         let g : l ≡ finds = f ∙ ap (λ (m : ℕ). take m (resultAfter (locateService o t p n (length result)) result)) (sym q) ∙ front in
-        (subst (Listed p (textOf o t)) (sym g) (listed p (textOf o t)), ap length g ∙ q, counted ∙ ap (λ (m : List ℕ). done (length m) 0) (sym g))
+        (subst (AllOccurrences p (textOf o t)) (sym g) (listed p (textOf o t)), ap length g ∙ q, counted ∙ ap (λ (m : List ℕ). done (length m) 0) (sym g))

@@ -3,7 +3,7 @@
 use mathlib.Core.Path.{_≡_, refl, sym, _∙_, ap, subst}
 use mathlib.Core.Bool.{true, false}
 use mathlib.Core.Logic.{_⊎_, inl, inr, ⊎-elim}
-use mathlib.Core.List.{List, [], _∷_, _++_, append-assoc, append-nil}
+use mathlib.Core.List.{List, [], _∷_, _++_}
 use Prim.Native.Nat.{ℕ, zero, suc, _≤_, _<_}
 use native.Mathlib.Omega.{arith}
 use lib.ListN.{length, getD, length-append, List·getD-append}
@@ -12,6 +12,7 @@ use borrow.Author.Tests.{lt-ltb, le-ltb}
 use Rattle.definitions.specs.Words.{same}
 use Rattle.definitions.specs.Grammar.{Tree, leaf, node, word, lyndonTree, leftOf, rightOf, indexOf, meet, visit, order}
 use Rattle.lists.specs.Bools.{either}
+use Rattle.lists.specs.Lists.{Extends, extends-self, extends-trans}
 use Rattle.lists.specs.Numbers.{split-le, split-lt}
 use Rattle.lists.specs.Strings.{same-eq, same-self, eq-same}
 use Rattle.lyndon.specs.Words.{Lyndon}
@@ -47,14 +48,14 @@ index-at x (y ∷ S) h = ⊎-elim
     (either (same x y))
 
 -- and nowhere before
-pub index-first : (x : List ℕ) (S : List (List ℕ)) (i : ℕ) → i < length S → getD S i [] ≡ x → indexOf x S ≤ i
+index-first : (x : List ℕ) (S : List (List ℕ)) (i : ℕ) → i < length S → getD S i [] ≡ x → indexOf x S ≤ i
 index-first x [] i h e = absurd (omega arith)
 index-first x (y ∷ S) zero h e = omega (arith, index-found x y S (eq-same x y (sym e)))
 index-first x (y ∷ S) (suc i) h e = let ih = index-first x S i (omega arith) e in
     ⊎-elim (λ q. omega (arith, index-found x y S q)) (λ q. omega (arith, index-later x y S q)) (either (same x y))
 
 -- more strings behind change no index
-pub index-append : (x : List ℕ) (S M : List (List ℕ)) → Has S x → indexOf x (S ++ M) ≡ indexOf x S
+index-append : (x : List ℕ) (S M : List (List ℕ)) → Has S x → indexOf x (S ++ M) ≡ indexOf x S
 unfolding indexOf
 index-append x [] M h = absurd (omega arith)
 index-append x (y ∷ S) M h = ⊎-elim
@@ -62,7 +63,7 @@ index-append x (y ∷ S) M h = ⊎-elim
     (λ e. index-later x y (S ++ M) e ∙ ap suc (index-append x S M (omega (arith, index-later x y S e))) ∙ sym (index-later x y S e))
     (either (same x y))
 
-pub index-new : (x : List ℕ) (S : List (List ℕ)) → length S ≤ indexOf x S → indexOf x (S ++ (x ∷ [])) ≡ length S
+index-new : (x : List ℕ) (S : List (List ℕ)) → length S ≤ indexOf x S → indexOf x (S ++ (x ∷ [])) ≡ length S
 unfolding indexOf
 index-new x [] h = index-found x x [] (same-self x)
 index-new x (y ∷ S) h = ⊎-elim
@@ -85,7 +86,7 @@ index-cases y x S h = split-le (length S) (indexOf y S) new (λ l. inl l)
             (λ k. rw k (getD-append-seam S x [] []))
             (λ k. absurd (omega (arith, simp length-append at h)))
 
-pub has-append : (x : List ℕ) (S M : List (List ℕ)) → Has S x → Has (S ++ M) x
+has-append : (x : List ℕ) (S M : List (List ℕ)) → Has S x → Has (S ++ M) x
 has-append x S M h = rw (index-append x S M h) (simp length-append (omega arith))
 
 -- ---- one string more
@@ -108,13 +109,6 @@ meet-index S x = split-le (length S) (indexOf x S)
     (λ h. rw (meet-new S x h, index-new x S h) (omega (arith, index-le x S)))
     (λ h. rw (meet-old S x h))
 
--- T is S with more strings behind
-abbrev pub Extends : List (List ℕ) → List (List ℕ) → Type 0
-Extends S T = (M : List (List ℕ)) × (T ≡ S ++ M)
-
-pub extends-trans : (S T U : List (List ℕ)) → Extends S T → Extends T U → Extends S U
-extends-trans S T U (M, e) (N, f) = (M ++ N, f ∙ ap (λ (X : List (List ℕ)). X ++ N) e ∙ append-assoc S M N)
-
 pub extends-has : (S T : List (List ℕ)) (x : List ℕ) → Extends S T → Has S x → Has T x
 extends-has S T x (M, e) h = rw e (has-append x S M h)
 
@@ -124,7 +118,7 @@ extends-index S T x (M, e) h = rw e (index-append x S M h)
 pub meet-extends : (S : List (List ℕ)) (x : List ℕ) → Extends S (meet S x)
 meet-extends S x = split-le (length S) (indexOf x S)
     (λ h. (x ∷ [], meet-new S x h))
-    (λ h. ([], meet-old S x h ∙ sym (append-nil S)))
+    (λ h. rw (meet-old S x h) (extends-self S))
 
 pub visit-extends : (S : List (List ℕ)) (t : Tree) → Extends S (visit S t)
 unfolding visit
@@ -156,7 +150,7 @@ Fits S x = 2 ≤ length x → Has S (leftOf x) × Has S (rightOf x)
 pub parts-fit : (S : List (List ℕ)) → Numbered S → (x : List ℕ) → Has S x → Fits S x
 parts-fit S n x h k = let (p, q) = n .parts x h k in (omega arith, omega arith)
 
-pub meet-numbered : (S : List (List ℕ)) (x : List ℕ) → Numbered S → 0 < length x → Fits S x → Numbered (meet S x)
+meet-numbered : (S : List (List ℕ)) (x : List ℕ) → Numbered S → 0 < length x → Fits S x → Numbered (meet S x)
 meet-numbered S x n hx fit = split-le (length S) (indexOf x S)
     (λ h. rw (meet-new S x h) (record { once = once h; filled = filled h; parts = parts h }))
     (λ h. rw (meet-old S x h) n)

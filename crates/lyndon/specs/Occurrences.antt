@@ -4,20 +4,20 @@
 use mathlib.Core.Path.{_≡_, refl, sym, _∙_, ap, ap₂, subst}
 use mathlib.Core.Bool.{Bool, true, false, _&&_}
 use mathlib.Core.Logic.{⊎-elim, _↔_}
-use mathlib.Core.List.{List, [], _∷_, _++_, map, List·Memᴰ as In, List·Memᴰ·head as here, List·Memᴰ·tail as there, List·Memᴰ·not-nil as in-nil, Memᴰ·append-right as in-right, List·Memᴰ·cases-cons as in-cons}
+use mathlib.Core.List.{List, [], _∷_, _++_, map, append-nil, List·Memᴰ as In, List·Memᴰ·head as here, List·Memᴰ·tail as there, List·Memᴰ·not-nil as in-nil, Memᴰ·append-right as in-right, List·Memᴰ·cases-cons as in-cons}
 use Prim.Native.Nat.{ℕ, suc, _+_, _≤_, _<_}
 use native.Mathlib.Omega.{arith}
 use lib.ListN.{length, take, drop, length-append, length-drop, length-map, take-append-drop}
-use lib.Seq.{take-append-seam}
+use lib.Seq.{take-append-seam, drop-length}
 use lib.Dec.{eqb}
 use borrow.Author.Tests.{eqb-true, eq-eqb, ne-eqb}
 use Rattle.definitions.specs.declared.Order.{Order}
-use Rattle.definitions.specs.Words.{begins}
+use Rattle.definitions.specs.Words.{below, begins}
 use Rattle.definitions.specs.Table.{rankOf, byteOf, marked}
 use Rattle.definitions.specs.Occurrences.{occurrences}
 use Rattle.lists.specs.Bools.{bool-ext}
-use Rattle.lists.specs.Numbers.{Rising, below-in, below-lt, below-rising, below-ext, below-shift}
-use Rattle.lists.specs.Members.{drop-map, in-drop}
+use Rattle.lists.specs.Numbers.{Rising, below-length, below-in, below-lt, below-rising, below-ext, below-shift}
+use Rattle.lists.specs.Members.{drop-map, in-drop, in-none}
 use Rattle.lists.specs.Strings.{begins-rest, rest-begins}
 use Rattle.lyndon.specs.Ranks.{Bytes, byte-of-rank, rank-range}
 
@@ -39,13 +39,13 @@ at-begins p s i (h, e) =
 
 -- ---- a position is listed exactly when the pattern begins there
 
-pub occurrence-is : (p s : List ℕ) (i : ℕ) → In i (occurrences p s) → BeginsAt p s i
+occurrence-is : (p s : List ℕ) (i : ℕ) → In i (occurrences p s) → BeginsAt p s i
 unfolding occurrences
 occurrence-is p s i m =
     let (l, e) = below-lt (λ k. begins p (drop k s)) (suc (length s)) i m in
     begins-at p s i (omega arith) e
 
-pub is-occurrence : (p s : List ℕ) (i : ℕ) → BeginsAt p s i → In i (occurrences p s)
+is-occurrence : (p s : List ℕ) (i : ℕ) → BeginsAt p s i → In i (occurrences p s)
 unfolding occurrences
 is-occurrence p s i h = below-in (λ k. begins p (drop k s)) (suc (length s)) i (omega (arith, h .0)) (at-begins p s i h)
 
@@ -56,6 +56,17 @@ occurrence p s i = (occurrence-is p s i, is-occurrence p s i)
 pub occurrences-rising : (p s : List ℕ) → Rising (occurrences p s)
 unfolding occurrences
 occurrences-rising p s = below-rising (λ k. begins p (drop k s)) (suc (length s))
+
+-- how many there can be
+pub occurrences-most : (p s : List ℕ) → length (occurrences p s) ≤ suc (length s)
+unfolding occurrences
+occurrences-most p s = below-length (λ i. begins p (drop i s)) (suc (length s))
+
+-- a pattern that is not empty does not begin at the end
+pub occurrences-fewer : (p s : List ℕ) → 0 < length p → length (occurrences p s) ≤ length s
+unfolding occurrences below begins
+occurrences-fewer [] s h = absurd (omega arith)
+occurrences-fewer (a ∷ p) s h = rw (drop-length s, append-nil) (below-length (λ i. begins (a ∷ p) (drop i s)) (length s))
 
 -- ---- nothing begins unlisted
 
@@ -96,12 +107,8 @@ none-after p s l j e i h b =
 pub empty-nowhere : (p s : List ℕ) → (occurrences p s ≡ []) ↔ ((i : ℕ) → BeginsAt p s i → ⊥)
 empty-nowhere p s = (
   λ e i b. in-nil (subst (λ (x : List ℕ). In i x) e (is-occurrence p s i b)),
-  λ h. none (occurrences p s) (λ i m. h i (occurrence-is p s i m)),
+  λ h. in-none (occurrences p s) (λ i m. h i (occurrence-is p s i m)),
 )
-  where
-    none : (l : List ℕ) → ((i : ℕ) → In i l → ⊥) → l ≡ []
-    none [] h = refl
-    none (k ∷ l) h = absurd (h k (here refl))
 
 -- so for a pattern longer than the string
 pub longer-nowhere : (p s : List ℕ) → length s < length p → occurrences p s ≡ []

@@ -4,14 +4,14 @@
 use mathlib.Core.Path.{_≡_, sym, _∙_, ap, ap₂, subst}
 use mathlib.Core.Bool.{true}
 use mathlib.Core.List.{List, [], _++_, map}
-use Prim.Native.Nat.{ℕ, _+_, _*_, _/_, _<_}
+use Prim.Native.Nat.{ℕ, _+_, _*_, _<_}
 use native.Mathlib.Omega.{arith}
 use lib.ListN.{length, getD, length-map}
 use lib.Dec.{ltb, eqb}
 use borrow.Author.Tests.{ltb-true, eqb-true}
 use Rattle.definitions.specs.declared.Order.{Order}
 use Rattle.definitions.specs.Grammar.{leftOf, rightOf, order}
-use Rattle.definitions.specs.Table.{rankOf, numberOfRank, marked, words, kindOf, numberOf, tableOf, isTable, textOf, chairOf, isPair, leftHalf, rightHalf, ruleString}
+use Rattle.definitions.specs.Table.{rankOf, numberOfRank, marked, words, kindOf, numberOf, tableOf, isTable, textOf, chairOf, isPair, leftHalf, rightHalf, ruleString, ruleCount}
 use Rattle.definitions.specs.Occurrences.{occurrences, liveCuts, patternCuts, straddling, cutAt}
 use Rattle.lists.specs.Bools.{and-left, and-right}
 use Rattle.lyndon.specs.Factorization.{Std, std-parts}
@@ -23,11 +23,11 @@ use Rattle.lyndon.specs.Reading.{Stored, storable, order-most, table-wor
 use Rattle.lyndon.specs.Joins.{straddling-cut, live-suffice, occurrences-join}
 
 -- the string of rule r is its halves' strings, and these are its standard factorization
-abbrev pub Halves : Order → List ℕ → ℕ → Type 0
-Halves o t r = (ruleString o t r ≡ leftHalf o t r ++ rightHalf o t r) × Std (leftHalf o t r) (rightHalf o t r)
+abbrev pub StandardHalves : Order → List ℕ → ℕ → Type 0
+StandardHalves o t r = (ruleString o t r ≡ leftHalf o t r ++ rightHalf o t r) × Std (leftHalf o t r) (rightHalf o t r)
 
 stored-halves : (o : Order) (text : List ℕ) (chair : ℕ) → Stored text chair → (r : ℕ) → isPair (tableOf o text chair) r ≡ true
-    → Halves o (tableOf o text chair) r
+    → StandardHalves o (tableOf o text chair) r
 unfolding isPair leftHalf rightHalf ruleString
 stored-halves o text chair ok r e = go (entry o S chair r (storable o text chair ok) small)
   where
@@ -38,18 +38,18 @@ stored-halves o text chair ok r e = go (entry o S chair r (storable o text chair
     t = tableOf o text chair
 
     small : r < length S
-    small = omega (arith, table-rules o text chair ok, ltb-true r (length t / 2) (and-left (ltb r (length t / 2)) (eqb (kindOf (getD t (2 * r) 0)) 1) e))
+    small = omega (arith, table-rules o text chair ok, ltb-true r (ruleCount t) (and-left (ltb r (ruleCount t)) (eqb (kindOf (getD t (2 * r) 0)) 1) e))
 
     is-pair : kindOf (getD (words o chair (rulesFor S)) (2 * r) 0) ≡ 1
     is-pair =
         ap (λ (x : List ℕ). kindOf (getD x (2 * r) 0)) (sym (table-words o text chair ok))
-        ∙ eqb-true (kindOf (getD t (2 * r) 0)) 1 (and-right (ltb r (length t / 2)) (eqb (kindOf (getD t (2 * r) 0)) 1) e)
+        ∙ eqb-true (kindOf (getD t (2 * r) 0)) 1 (and-right (ltb r (ruleCount t)) (eqb (kindOf (getD t (2 * r) 0)) 1) e)
 
     -- rule i has string i
     string : (i : ℕ) → ruleString o t i ≡ getD S i []
     string i = ap (λ (x : List (List ℕ)). getD x i []) (table-strings o text chair ok)
 
-    go : Entry o S chair r → Halves o t r
+    go : Entry o S chair r → StandardHalves o t r
     go (one a l x f s) =
         absurd (omega (arith, number-range o a l, sym (word-kind 0 (numberOfRank o a) (omega (arith, number-range o a l))) ∙ ap kindOf (sym f) ∙ is-pair))
     go (two i j p q k x y f s) =
@@ -59,9 +59,9 @@ stored-halves o text chair ok r e = go (entry o S chair r (storable o text chair
         let (e₁, d) = std-parts (getD S r []) k in
         (string r ∙ e₁ ∙ sym (ap₂ {C = List ℕ} (λ u v. u ++ v) left right), rw (left, right) d)
 
-pub pair-halves : (o : Order) (t : List ℕ) → isTable o t ≡ true → (r : ℕ) → isPair t r ≡ true → Halves o t r
+pub pair-halves : (o : Order) (t : List ℕ) → isTable o t ≡ true → (r : ℕ) → isPair t r ≡ true → StandardHalves o t r
 pair-halves o t a r e =
-    subst (λ (x : List ℕ). Halves o x r) (accepted-table o t a)
+    subst (λ (x : List ℕ). StandardHalves o x r) (accepted-table o t a)
     (stored-halves o (textOf o t) (chairOf t) (accepted-stored o t a) r (rw (accepted-table o t a) e))
 
 -- trying live cuts alone loses no occurrence

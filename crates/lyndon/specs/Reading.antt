@@ -5,7 +5,7 @@ use mathlib.Core.Path.{_≡_, refl, sym, _∙_, ap, subst}
 use mathlib.Core.Bool.{Bool, true, false, not, _&&_}
 use mathlib.Core.Logic.{_↔_}
 use mathlib.Core.List.{List, _++_, map, List·Memᴰ as In, Memᴰ·append-left as in-left, Memᴰ·append-right as in-right}
-use Prim.Native.Nat.{ℕ, _*_, _/_, _%_, _≤_, _<_}
+use Prim.Native.Nat.{ℕ, _*_, _%_, _≤_, _<_}
 use native.Mathlib.Omega.{arith}
 use lib.ListN.{length, drop, getD}
 use lib.Dec.{leb}
@@ -13,11 +13,10 @@ use borrow.Author.Tests.{leb-true, le-leb, le-ltb, ne-eqb, not-false}
 use Rattle.definitions.specs.declared.Order.{Order}
 use Rattle.definitions.specs.Words.{least, same}
 use Rattle.definitions.specs.Grammar.{order, rulesOf}
-use Rattle.definitions.specs.Table.{byteOf, marked, numberOf, words, tableOf, badWord, strings, ruleString, spelled, textOf, chairOf, isDrive, isChair, isTable}
+use Rattle.definitions.specs.Table.{byteOf, marked, numberOf, words, tableOf, badWord, strings, ruleString, spelled, textOf, chairOf, isDrive, isChair, isTable, ruleCount}
 use Rattle.definitions.specs.Services.{tableLength, hasBadWord, notATable}
 use Rattle.lists.specs.Bools.{and-left, and-right, and-intro}
 use Rattle.lists.specs.Strings.{same-eq, same-self}
-use Rattle.lyndon.specs.Words.{Lyndon}
 use Rattle.lyndon.specs.Numbering.{order-numbered}
 use Rattle.lyndon.specs.Sequence.{order-all, order-filled, order-root, order-size}
 use Rattle.lyndon.specs.Rules.{rulesFor, rules-length}
@@ -32,15 +31,12 @@ pub record Stored (text : List ℕ) (chair : ℕ) : Type 0 where
   pub chairs : chair < 65536
 
 module _ (o : Order) (text : List ℕ) (chair : ℕ) (ok : Stored text chair) where
-  word-lyndon : Lyndon (marked o text)
-  word-lyndon = marked-lyndon o text (ok .bytes)
-
   -- the strings of the drive's grammar, by number: at most 2,304
   pub order-most : length (order (marked o text)) ≤ 2304
   order-most =
       omega (
         arith,
-        order-size 257 (marked o text) word-lyndon (marked-symbols o text (ok .bytes)),
+        order-size 257 (marked o text) (marked-lyndon o text (ok .bytes)) (marked-symbols o text (ok .bytes)),
         marked-length o text,
         ok .short,
       )
@@ -48,8 +44,8 @@ module _ (o : Order) (text : List ℕ) (chair : ℕ) (ok : Stored text chair) wh
   pub storable : Storable (order (marked o text)) chair
   storable =
       record {
-        numbered = order-numbered (marked o text) word-lyndon;
-        symbols = order-all (λ x. (a : ℕ) → In a x → a < 257) halves (marked o text) word-lyndon (marked-symbols o text (ok .bytes));
+        numbered = order-numbered (marked o text) (marked-lyndon o text (ok .bytes));
+        symbols = order-all (λ x. (a : ℕ) → In a x → a < 257) halves (marked o text) (marked-lyndon o text (ok .bytes)) (marked-symbols o text (ok .bytes));
         size = omega (arith, order-most);
         chair = ok .chairs;
       }
@@ -68,26 +64,29 @@ module _ (o : Order) (text : List ℕ) (chair : ℕ) (ok : Stored text chair) wh
       rw table-words
       (words-length o chair (rulesFor (order (marked o text))) ∙ ap (λ (n : ℕ). 2 * n) (rules-length (order (marked o text))))
 
-  pub table-rules : length (tableOf o text chair) / 2 ≡ length (order (marked o text))
+  pub table-rules : ruleCount (tableOf o text chair) ≡ length (order (marked o text))
   table-rules = omega (arith, table-length)
 
   pub table-filled : 0 < length (tableOf o text chair)
-  table-filled = omega (arith, table-length, order-filled (marked o text) word-lyndon)
+  table-filled = omega (arith, table-length, order-filled (marked o text) (marked-lyndon o text (ok .bytes)))
 
   pub table-size : length (tableOf o text chair) ≤ 4608
   table-size = omega (arith, table-length, order-most)
+
+  pub rule-range : (0 < ruleCount (tableOf o text chair)) × (ruleCount (tableOf o text chair) ≤ 2304)
+  rule-range = (omega (arith, table-length, table-filled), omega (arith, table-size))
 
   pub table-no-bad : least (badWord (tableOf o text chair)) (length (tableOf o text chair)) ≡ length (tableOf o text chair)
   table-no-bad = rw table-words (no-bad-word o (order (marked o text)) chair storable)
 
   -- ---- what it spells
 
-  pub table-strings : strings o (tableOf o text chair) (length (tableOf o text chair) / 2) ≡ order (marked o text)
+  pub table-strings : strings o (tableOf o text chair) (ruleCount (tableOf o text chair)) ≡ order (marked o text)
   table-strings = rw (table-rules, table-words) (strings-back o (order (marked o text)) chair storable)
 
   pub table-spelled : spelled o (tableOf o text chair) ≡ marked o text
   unfolding spelled ruleString
-  table-spelled = rw (table-strings, table-rules) (order-root (marked o text) word-lyndon)
+  table-spelled = rw (table-strings, table-rules) (order-root (marked o text) (marked-lyndon o text (ok .bytes)))
 
   pub table-text : textOf o (tableOf o text chair) ≡ text
   unfolding textOf marked
@@ -95,7 +94,7 @@ module _ (o : Order) (text : List ℕ) (chair : ℕ) (ok : Stored text chair) wh
 
   pub table-chair : chairOf (tableOf o text chair) ≡ chair
   unfolding chairOf beside
-  table-chair = rw table-words (go (entry o (order (marked o text)) chair 0 storable (order-filled (marked o text) word-lyndon)))
+  table-chair = rw table-words (go (entry o (order (marked o text)) chair 0 storable (order-filled (marked o text) (marked-lyndon o text (ok .bytes)))))
     where
       go : Entry o (order (marked o text)) chair 0 → numberOf (getD (words o chair (rulesFor (order (marked o text)))) 1 0) ≡ chair
       go (one a l e f s) = rw s (word-number 3 chair (omega (arith, ok .chairs)))
@@ -154,10 +153,10 @@ table-injective o x y c d h k e = (
 )
 
 -- so it passes the checks of refusals 5, 6 and 7 exactly when it is the table of some drive and chair number
-abbrev pub Passes : Order → List ℕ → Type 0
-Passes o t = (tableLength (length t) .met ≡ false) × (hasBadWord t .met ≡ false) × (notATable o t .met ≡ false)
+abbrev pub Acceptable : Order → List ℕ → Type 0
+Acceptable o t = (tableLength (length t) .met ≡ false) × (hasBadWord t .met ≡ false) × (notATable o t .met ≡ false)
 
-stored-passes : (o : Order) (text : List ℕ) (chair : ℕ) → Stored text chair → Passes o (tableOf o text chair)
+stored-passes : (o : Order) (text : List ℕ) (chair : ℕ) → Stored text chair → Acceptable o (tableOf o text chair)
 stored-passes o text chair ok =
     let t = tableOf o text chair in
     let filled = table-filled o text chair ok in
@@ -168,8 +167,8 @@ stored-passes o text chair ok =
       ap not (table-accepted o text chair ok),
     )
 
-pub passes : (o : Order) (t : List ℕ) → Passes o t ↔ ((text : List ℕ) × (chair : ℕ) × Stored text chair × (t ≡ tableOf o text chair))
+pub passes : (o : Order) (t : List ℕ) → Acceptable o t ↔ ((text : List ℕ) × (chair : ℕ) × Stored text chair × (t ≡ tableOf o text chair))
 passes o t = (
   λ h. accepted o t .0 (not-false (isTable o t) (h .2)),
-  λ (text, chair, ok, e). subst (Passes o) (sym e) (stored-passes o text chair ok),
+  λ (text, chair, ok, e). subst (Acceptable o) (sym e) (stored-passes o text chair ok),
 )

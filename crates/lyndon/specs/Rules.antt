@@ -12,13 +12,14 @@ use borrow.Author.Tests.{lt-ltb, le-ltb, eqb-true, eq-eqb}
 use Rattle.definitions.specs.Words.{same}
 use Rattle.definitions.specs.Grammar.{Tree, leaf, node, word, lyndonTree, leftOf, rightOf, indexOf, meet, visit, order, Rule, symbol, pair, ruleOf, rulesOf}
 use Rattle.lists.specs.Bools.{either, contra, not-so, and-left, and-right, and-intro}
+use Rattle.lists.specs.Lists.{Extends}
 use Rattle.lists.specs.Numbers.{split-le}
 use Rattle.lists.specs.Newest.{newest, newest-only, newest-none}
 use Rattle.lists.specs.Strings.{eq-same}
 use Rattle.lyndon.specs.Words.{Lyndon}
 use Rattle.lyndon.specs.Factorization.{std-left, std-right, std-parts}
 use Rattle.lyndon.specs.Trees.{LyndonTree, word-filled, tree-of}
-use Rattle.lyndon.specs.Numbering.{Has, Numbered, Extends, Fits, index-found, index-later, index-le, index-at, meet-old, meet-new, meet-index, extends-has, extends-index, visit-extends, visit-has, visit-numbered, none-numbered, node-fits, parts-fit}
+use Rattle.lyndon.specs.Numbering.{Has, Numbered, Fits, index-found, index-later, index-le, index-at, meet-old, meet-new, meet-index, extends-has, extends-index, visit-extends, visit-has, visit-numbered, none-numbered, node-fits, parts-fit}
 
 -- ---- the model: a list of rules, and where a rule stands in it
 
@@ -192,7 +193,7 @@ unfolding intern
 intern-new K x h = rw (le-ltb (find x K) (length K) h)
 
 -- adding the rule of a string is meeting the string
-pub intern-meet : (S : List (List ℕ)) (x : List ℕ) → Numbered S → 0 < length x → Fits S x
+intern-meet : (S : List (List ℕ)) (x : List ℕ) → Numbered S → 0 < length x → Fits S x
     → intern (rulesFor S) (ruleOf S x) ≡ rulesFor (meet S x)
 intern-meet S x n hx f = split-le (length S) (indexOf x S)
     (λ h.

@@ -11,11 +11,12 @@ use lib.Dec.{ltb}
 use borrow.Author.Tests.{ltb-true, lt-ltb, le-ltb}
 use Rattle.definitions.specs.Words.{below}
 use Rattle.definitions.specs.Grammar.{Tree, leaf, node, word, lyndonTree, leftOf, rightOf, indexOf, meet, visit, order}
+use Rattle.lists.specs.Lists.{Extends}
 use Rattle.lists.specs.Numbers.{split-le, below-length, count-le, count-lt}
 use Rattle.lyndon.specs.Words.{Lyndon}
 use Rattle.lyndon.specs.Factorization.{std-left, std-right}
 use Rattle.lyndon.specs.Trees.{LyndonTree, word-filled, tree-of}
-use Rattle.lyndon.specs.Numbering.{Has, Numbered, Extends, index-at, index-cases, meet-old, meet-new, meet-has, meet-extends, extends-has, visit-extends, order-numbered}
+use Rattle.lyndon.specs.Numbering.{Has, Numbered, index-at, index-cases, meet-old, meet-new, meet-has, meet-extends, extends-has, visit-extends, order-numbered}
 
 -- what was met after x stood there, or is x
 meet-cases : (S : List (List ℕ)) (x y : List ℕ) → Has (meet S x) y → Has S y ⊎ (y ≡ x)
@@ -24,7 +25,7 @@ meet-cases S x y h = split-le (length S) (indexOf x S)
     (λ k. inl (rw (meet-old S x k) at h))
 
 -- what holds of a tree's word and of the two halves of whatever it holds of holds of every string that visiting adds
-pub visit-all : (P : List ℕ → Type 0) → ((u v : List ℕ) → P (u ++ v) → P u × P v) → (S : List (List ℕ)) (t : Tree)
+visit-all : (P : List ℕ → Type 0) → ((u v : List ℕ) → P (u ++ v) → P u × P v) → (S : List (List ℕ)) (t : Tree)
     → ((x : List ℕ) → Has S x → P x) → P (word t) → (x : List ℕ) → Has (visit S t) x → P x
 unfolding visit word
 visit-all P halves S (leaf a) s h x k = ⊎-elim (λ l. s x l) (λ e. subst P (sym e) h) (meet-cases S (a ∷ []) x k)
@@ -62,7 +63,7 @@ visit-last (node l r) = (
         halves : (u v : List ℕ) → length (u ++ v) ≤ n → (length u ≤ n) × (length v ≤ n)
         halves u v k = let sum = length-append u v in (omega arith, omega arith)
 
-pub order-last : (w : List ℕ) → Lyndon w → (S : List (List ℕ)) × (order w ≡ S ++ (w ∷ []))
+order-last : (w : List ℕ) → Lyndon w → (S : List (List ℕ)) × (order w ≡ S ++ (w ∷ []))
 unfolding order
 order-last w h =
     let (S, e) = visit-last (lyndonTree w) in

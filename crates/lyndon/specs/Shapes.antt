@@ -1,10 +1,11 @@
 -- Tables without a bad word: each rule is a symbol or two rules before it (`shape`), and spells one symbol or what these two spell
--- (`symbol-string`, `pair-string`); no rule spells nothing (`string-filled`), and every symbol is a rank (`string-ranks`).
+-- (`symbol-string`, `pair-string`), as its first word tells (`symbol-word`, `pair-word`); no rule spells nothing (`string-filled`), and every
+-- symbol is a rank (`string-ranks`).
 use mathlib.Core.Path.{_≡_, refl, sym, _∙_, ap, ap₂, subst}
-use mathlib.Core.Bool.{Bool, true, false, cond, not, _&&_, _||_}
+use mathlib.Core.Bool.{Bool, true, false, cond, not, _&&_, _||_, or-false}
 use mathlib.Core.Logic.{_⊎_, inl, inr, ⊎-elim}
 use mathlib.Core.List.{List, [], _∷_, _++_, List·Memᴰ as In, List·Memᴰ·append-cases as in-append, List·Memᴰ·eq-of-singleton as in-one}
-use Prim.Native.Nat.{ℕ, zero, suc, _+_, _-_, _*_, _/_, _%_, _≤_, _<_}
+use Prim.Native.Nat.{ℕ, zero, suc, _+_, _-_, _*_, _/_, _%_, _^_, _≤_, _<_}
 use native.Mathlib.Omega.{arith}
 use native.Mathlib.Nat.{add-zero, add-suc}
 use lib.ListN.{length, getD, length-append, List·getD-append}
@@ -12,7 +13,7 @@ use lib.Seq.{getD-append-seam}
 use lib.Dec.{ltb, leb, eqb}
 use borrow.Author.Tests.{ltb-true, leb-true, eqb-true, eq-eqb, ne-eqb, not-false}
 use Rattle.definitions.specs.declared.Order.{Order}
-use Rattle.definitions.specs.Table.{tableOf, rankOfNumber, kindOf, numberOf, badFirst, badSecond, badWord, stringOf, strings, ruleString}
+use Rattle.definitions.specs.Table.{tableOf, rankOfNumber, kindOf, numberOf, badFirst, badSecond, badWord, stringOf, strings, ruleString, ruleCount}
 use Rattle.lists.specs.Bools.{and-left, and-right, or-cases}
 use Rattle.lists.specs.Numbers.{least-before}
 use Rattle.lyndon.specs.Ranks.{rank-range}
@@ -29,10 +30,10 @@ pub data Shape (t : List ℕ) (r : ℕ) : Type 0 where
 -- no word of the table is bad, and its words are even in number
 pub record Shaped (t : List ℕ) : Type 0 where
   pub good : (i : ℕ) → i < length t → badWord t i ≡ false
-  pub even : length t ≡ 2 * (length t / 2)
+  pub even : length t ≡ 2 * (ruleCount t)
   pub filled : 0 < length t
 
-first-good : (t : List ℕ) (r : ℕ) → Shaped t → r < length t / 2 → badFirst r (getD t (2 * r) 0) ≡ false
+first-good : (t : List ℕ) (r : ℕ) → Shaped t → r < ruleCount t → badFirst r (getD t (2 * r) 0) ≡ false
 unfolding badWord
 first-good t r s h =
     let e = s .good (2 * r) (omega (arith, s .even)) in
@@ -40,7 +41,7 @@ first-good t r s h =
     let q : 2 * r / 2 ≡ r = omega arith in
     rw (eq-eqb (2 * r % 2) 0 z, q) at e
 
-second-good : (t : List ℕ) (r : ℕ) → Shaped t → r < length t / 2 → badSecond r (getD t (2 * r) 0) (getD t (2 * r + 1) 0) ≡ false
+second-good : (t : List ℕ) (r : ℕ) → Shaped t → r < ruleCount t → badSecond r (getD t (2 * r) 0) (getD t (2 * r + 1) 0) ≡ false
 unfolding badWord
 second-good t r s h =
     let e = s .good (2 * r + 1) (omega (arith, s .even)) in
@@ -56,13 +57,9 @@ second-symbol r x y e f = not-false (eqb (kindOf y) 3 && leb (numberOf y) (cond 
 
 second-pair : (r x y : ℕ) → kindOf x ≡ 1 → badSecond r x y ≡ false → eqb (kindOf y) 2 && ltb (numberOf y) r ≡ true
 unfolding badSecond
-second-pair r x y e f = not-false (eqb (kindOf y) 2 && ltb (numberOf y) r) (none (not (eqb (kindOf y) 2 && ltb (numberOf y) r)) (rw e at f))
-  where
-    none : (b : Bool) → b || false ≡ false → b ≡ false
-    none true q = q
-    none false q = refl
+second-pair r x y e f = not-false (eqb (kindOf y) 2 && ltb (numberOf y) r) (sym (or-false (not (eqb (kindOf y) 2 && ltb (numberOf y) r))) ∙ rw e at f)
 
-pub shape : (t : List ℕ) (r : ℕ) → Shaped t → r < length t / 2 → Shape t r
+pub shape : (t : List ℕ) (r : ℕ) → Shaped t → r < ruleCount t → Shape t r
 unfolding badFirst
 shape t r s h = go (or-cases (eqb k 0 && leb n 256) (eqb k 1 && ltb n r) (not-false ((eqb k 0 && leb n 256) || (eqb k 1 && ltb n r)) (first-good t r s h)))
   where
@@ -114,7 +111,7 @@ chair-small t s = go (shape t 0 s (omega (arith, s .even, s .filled)))
 -- ---- what the rules spell
 
 module _ (o : Order) (t : List ℕ) where
-  pub strings-length : (n : ℕ) → length (strings o t n) ≡ n
+  strings-length : (n : ℕ) → length (strings o t n) ≡ n
   unfolding strings
   strings-length zero = refl
   strings-length (suc n) = simp length-append (omega (arith, strings-length n))
@@ -131,30 +128,52 @@ module _ (o : Order) (t : List ℕ) where
   string-in : (n m r : ℕ) → r < n → n ≤ m → getD (strings o t m) r [] ≡ getD (strings o t n) r []
   string-in n m r h l = subst (λ (k : ℕ). getD (strings o t k) r [] ≡ getD (strings o t n) r []) (omega arith) (strings-more n (m - n) r h)
 
-  rule-string : (r : ℕ) → r < length t / 2 → ruleString o t r ≡ stringOf o (strings o t r) (getD t (2 * r) 0) (getD t (2 * r + 1) 0)
+  rule-string : (r : ℕ) → r < ruleCount t → ruleString o t r ≡ stringOf o (strings o t r) (getD t (2 * r) 0) (getD t (2 * r + 1) 0)
   unfolding ruleString strings
   rule-string r h =
-      string-in (suc r) (length t / 2) r (omega arith) h
+      string-in (suc r) (ruleCount t) r (omega arith) h
       ∙ ap (λ (k : ℕ). getD (strings o t (suc r)) k []) (sym (strings-length r))
       ∙ getD-append-seam (strings o t r) (stringOf o (strings o t r) (getD t (2 * r) 0) (getD t (2 * r + 1) 0)) [] []
 
-  pub symbol-string : (r : ℕ) → r < length t / 2 → kindOf (getD t (2 * r) 0) ≡ 0 → ruleString o t r ≡ rankOfNumber o (numberOf (getD t (2 * r) 0)) ∷ []
+  pub symbol-string : (r : ℕ) → r < ruleCount t → kindOf (getD t (2 * r) 0) ≡ 0 → ruleString o t r ≡ rankOfNumber o (numberOf (getD t (2 * r) 0)) ∷ []
   unfolding stringOf
   symbol-string r h e = rule-string r h ∙ rw e
 
-  pub pair-string : (r : ℕ) → r < length t / 2 → kindOf (getD t (2 * r) 0) ≡ 1 → numberOf (getD t (2 * r) 0) < r → numberOf (getD t (2 * r + 1) 0) < r
+  pub pair-string : (r : ℕ) → r < ruleCount t → kindOf (getD t (2 * r) 0) ≡ 1 → numberOf (getD t (2 * r) 0) < r → numberOf (getD t (2 * r + 1) 0) < r
       → ruleString o t r ≡ ruleString o t (numberOf (getD t (2 * r) 0)) ++ ruleString o t (numberOf (getD t (2 * r + 1) 0))
   unfolding stringOf ruleString
   pair-string r h e u v =
       rule-string r h
       ∙ rw e
       (ap₂ {C = List ℕ} (λ x y. x ++ y)
-      (sym (string-in r (length t / 2) (numberOf (getD t (2 * r) 0)) u (omega arith)))
-      (sym (string-in r (length t / 2) (numberOf (getD t (2 * r + 1) 0)) v (omega arith))))
+      (sym (string-in r (ruleCount t) (numberOf (getD t (2 * r) 0)) u (omega arith)))
+      (sym (string-in r (ruleCount t) (numberOf (getD t (2 * r + 1) 0)) v (omega arith))))
+
+-- the first word tells the kinds apart: below 2 ^ 30 it is a symbol's, and else a pair's
+module _ (t : List ℕ) (r : ℕ) (s : Shaped t) (h : r < ruleCount t) where
+  pub symbol-word : getD t (2 * r) 0 < 2 ^ 30 → (getD t (2 * r) 0 < 257) × ((o : Order) → ruleString o t r ≡ rankOfNumber o (getD t (2 * r) 0) ∷ [])
+  unfolding kindOf numberOf
+  symbol-word l = go (shape t r s h)
+    where
+      same : getD t (2 * r) 0 % 2 ^ 30 ≡ getD t (2 * r) 0
+      same = omega arith
+
+      go : Shape t r → (getD t (2 * r) 0 < 257) × ((o : Order) → ruleString o t r ≡ rankOfNumber o (getD t (2 * r) 0) ∷ [])
+      go (one k n x y) = (omega arith, λ o. symbol-string o t r h k ∙ ap {B = List ℕ} (λ a. rankOfNumber o a ∷ []) same)
+      go (two k n x y) = absurd (omega arith)
+
+  pub pair-word : 2 ^ 30 ≤ getD t (2 * r) 0
+      → (kindOf (getD t (2 * r) 0) ≡ 1) × (numberOf (getD t (2 * r) 0) < r) × (numberOf (getD t (2 * r + 1) 0) < r)
+  unfolding kindOf
+  pair-word l = go (shape t r s h)
+    where
+      go : Shape t r → (getD t (2 * r) 0 / 2 ^ 30 ≡ 1) × (numberOf (getD t (2 * r) 0) < r) × (numberOf (getD t (2 * r + 1) 0) < r)
+      go (one k n x y) = absurd (omega arith)
+      go (two k n x y) = (k, n, y)
 
 -- what holds of every symbol that a rule may spell, and of two strings together where it holds of both, holds of every rule's string
 by-rules : (o : Order) (t : List ℕ) → Shaped t → (P : List ℕ → Type 0) → ((n : ℕ) → n < 257 → P (rankOfNumber o n ∷ []))
-    → ((u v : List ℕ) → P u → P v → P (u ++ v)) → (b r : ℕ) → r < b → r < length t / 2 → P (ruleString o t r)
+    → ((u v : List ℕ) → P u → P v → P (u ++ v)) → (b r : ℕ) → r < b → r < ruleCount t → P (ruleString o t r)
 by-rules o t s P base join zero r l h = absurd (omega arith)
 by-rules o t s P base join (suc b) r l h = go (shape t r s h) (λ q m. by-rules o t s P base join b q (omega arith) (omega arith))
   where
@@ -164,7 +183,7 @@ by-rules o t s P base join (suc b) r l h = go (shape t r s h) (λ q m. by-rules 
         subst P (sym (pair-string o t r h k n y))
         (join (ruleString o t (numberOf (getD t (2 * r) 0))) (ruleString o t (numberOf (getD t (2 * r + 1) 0))) (ih (numberOf (getD t (2 * r) 0)) n) (ih (numberOf (getD t (2 * r + 1) 0)) y))
 
-pub string-filled : (o : Order) (t : List ℕ) → Shaped t → (r : ℕ) → r < length t / 2 → 0 < length (ruleString o t r)
+pub string-filled : (o : Order) (t : List ℕ) → Shaped t → (r : ℕ) → r < ruleCount t → 0 < length (ruleString o t r)
 string-filled o t s r h =
     by-rules o t s (λ x. 0 < length x) (λ n l. omega arith) (λ u v p q. simp length-append (omega arith)) (suc r) r (omega arith) h
 
@@ -173,7 +192,7 @@ unfolding rankOfNumber
 number-rank o zero h = omega arith
 number-rank o (suc b) h = rank-range o b (omega arith) .1
 
-pub string-ranks : (o : Order) (t : List ℕ) → Shaped t → (r : ℕ) → r < length t / 2 → (a : ℕ) → In a (ruleString o t r) → a < 257
+pub string-ranks : (o : Order) (t : List ℕ) → Shaped t → (r : ℕ) → r < ruleCount t → (a : ℕ) → In a (ruleString o t r) → a < 257
 string-ranks o t s r h =
     by-rules o t s (λ x. (a : ℕ) → In a x → a < 257)
     (λ n l a m. rw (in-one m) (number-rank o n l))

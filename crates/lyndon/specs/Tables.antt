@@ -22,6 +22,7 @@ use Rattle.lyndon.specs.Encoding.{firstWord, secondWord, beside, word-ki
 
 -- ---- the table of numbered strings over 257 symbols
 
+-- numbered strings that a table can hold
 pub record Storable (S : List (List ℕ)) (c : ℕ) : Type 0 where
   pub numbered : Numbered S
   pub symbols : (x : List ℕ) → Has S x → (a : ℕ) → In a x → a < 257

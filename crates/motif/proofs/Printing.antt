@@ -2,7 +2,7 @@
 use mathlib.Core.Path.{_≡_, refl}
 use mathlib.Core.Bool.{Bool, true, false, cond, true≢false}
 use mathlib.Core.List.{List, _++_}
-use Prim.Native.Nat.{ℕ, _+_, _-_, _*_, _/_, _≤_, _<_}
+use Prim.Native.Nat.{ℕ, _+_, _-_, _*_, _≤_, _<_}
 use native.Mathlib.Omega.{arith}
 use lib.ListN.{length, take, length-take, length-append}
 use lib.Dec.{ltb, eqb}
@@ -11,7 +11,7 @@ use Rattle.definitions.specs.declared.Order.{Order}
 use Rattle.definitions.specs.declared.Order.the-variants.{Unsigned}
 use Rattle.definitions.specs.declared.Answer.{Answer}
 use Rattle.definitions.specs.declared.Answer.the-variants.{Done, Refused}
-use Rattle.definitions.specs.Table.{tableOf}
+use Rattle.definitions.specs.Table.{tableOf, ruleCount}
 use Rattle.definitions.specs.Occurrences.{occurrences}
 use Rattle.definitions.specs.Services.{firstMet, outcomeOf, outcome, resultAfter, patternChecks}
 use Rattle.definitions.specs.Programs.{named, decimalLines, refusedLine, printed, motifOf, driveOf, rulesName, foundName, foundLines, motifOutput}
@@ -75,7 +75,7 @@ module _ (input : List ℕ) (r : Answer) (h : outcomeOf r ≡ outcome (motifStep
   finds = occurrences (motifOf input) (driveOf input)
 
   abbrev l : List ℕ
-  l = named rulesName (length (tableOf Unsigned (driveOf input) 0) / 2) ++ foundLines (occurrences (motifOf input) (driveOf input))
+  l = named rulesName (ruleCount (tableOf Unsigned (driveOf input) 0)) ++ foundLines (occurrences (motifOf input) (driveOf input))
 
   found-output : searchOutput Unsigned input ≡ printed (motifStep input .checks) l
   unfolding searchOutput motifStep

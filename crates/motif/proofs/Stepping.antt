@@ -1,48 +1,31 @@
 -- What the services answer on the input's drive and motif is what the steps of the program say.
 use mathlib.Core.Path.{_≡_, refl, _∙_, ap, ap₂}
 use mathlib.Core.Bool.{Bool, true, false}
-use mathlib.Core.List.{List, [], _∷_, append-nil}
-use Prim.Native.Nat.{ℕ, suc, _≤_, _<_}
+use mathlib.Core.List.{List}
+use Prim.Native.Nat.{ℕ, _≤_, _<_}
 use native.Mathlib.Omega.{arith}
-use lib.ListN.{length, drop, getD}
-use lib.Seq.{drop-length}
+use lib.ListN.{length, getD}
 use lib.Dec.{ltb, eqb}
 use borrow.Author.Tests.{lt-ltb, le-ltb, ltb-false, eqb-false}
 use Rattle.definitions.specs.declared.Order.{Order}
 use Rattle.definitions.specs.declared.Answer.the-variants.{Refused}
-use Rattle.definitions.specs.Words.{below, begins}
 use Rattle.definitions.specs.Table.{tableOf}
 use Rattle.definitions.specs.Occurrences.{occurrences}
 use Rattle.definitions.specs.Services.{Outcome, firstMet, outcomeOf, outcome, resultAfter, patternChecks, tableChecks, buildService, locateService}
 use Rattle.definitions.specs.Programs.{motifOf, driveOf}
-use Rattle.lists.specs.Numbers.{below-length, below-lt}
 use Rattle.lists.specs.Members.{at-in}
 use Rattle.lyndon.specs.Ranks.{Bytes}
-use Rattle.lyndon.specs.Reading.{Stored, Passes, passes, table-text, table-size}
+use Rattle.lyndon.specs.Occurrences.{occurrence, occurrences-fewer}
+use Rattle.lyndon.specs.Reading.{Stored, Acceptable, passes, table-text, table-size}
 use Rattle.lines.specs.Lines.{Small}
 use Rattle.motif.specs.Steps.{driveStep, motifStep}
 
 pub stored : (text : List ℕ) → length text ≤ 2047 → Bytes text → Stored text 0
 stored text h b = record { short = h; bytes = b; chairs = omega arith }
 
--- ---- how many occurrences there are, and that their positions are small
-
-pub occurs-most : (p s : List ℕ) → length (occurrences p s) ≤ suc (length s)
-unfolding occurrences
-occurs-most p s = below-length (λ i. begins p (drop i s)) (suc (length s))
-
--- a pattern that is not empty begins before the end
-finds-most : (p s : List ℕ) → 0 < length p → length (occurrences p s) ≤ length s
-unfolding occurrences below begins
-finds-most [] s h = absurd (omega arith)
-finds-most (a ∷ p) s h =
-    rw (drop-length s, append-nil)
-    (below-length (λ i. begins (a ∷ p) (drop i s)) (length s))
-
+-- positions are small
 pub finds-small : (p s : List ℕ) → length s ≤ 2047 → Small (occurrences p s)
-unfolding occurrences
-finds-small p s h i k =
-    omega (arith, below-lt (λ i. begins p (drop i s)) (suc (length s)) (getD (occurrences p s) i 0) (at-in (occurrences p s) i k) .0)
+finds-small p s h i k = omega (arith, occurrence p s (getD (occurrences p s) i 0) .0 (at-in (occurrences p s) i k) .0)
 
 -- ---- the drive
 
@@ -86,8 +69,8 @@ module _ (o : Order) (input old : List ℕ) (n : ℕ) (work : 16384 ≤ n) (room
       let t = tableOf o (driveOf input) 0 in
       let finds = occurrences (motifOf input) (driveOf input) in
       let some : length (motifOf input) ≡ 0 → ⊥ = eqb-false (length (motifOf input)) 0 q in
-      let fits : length finds ≤ length old = omega (arith, finds-most (motifOf input) (driveOf input) (omega arith), ok .short) in
-      let accepted : Passes o t = passes o t .1 (driveOf input, 0, ok, refl) in (
+      let fits : length finds ≤ length old = omega (arith, occurrences-fewer (motifOf input) (driveOf input) (omega arith), ok .short) in
+      let accepted : Acceptable o t = passes o t .1 (driveOf input, 0, ok, refl) in (
         rw (q, r, le-ltb n 16384 work, accepted .0, accepted .1, accepted .2, table-text o (driveOf input) 0 ok, le-ltb (length old) (length finds) fits),
         rw (q, r, le-ltb n 16384 work, accepted .0, accepted .1, accepted .2, table-text o (driveOf input) 0 ok, le-ltb (length old) (length finds) fits),
       )

@@ -1,11 +1,11 @@
 -- The two steps of the program `motif`, as services: building the drive's table, and locating the motif. What either refuses is printed.
 use mathlib.Core.List.{List, [], _∷_, _++_}
 use mathlib.Core.Path.{_≡_}
-use Prim.Native.Nat.{ℕ, _/_, _≤_}
+use Prim.Native.Nat.{ℕ, _≤_}
 use lib.ListN.{length}
 use Rattle.definitions.specs.declared.Order.{Order}
 use Rattle.definitions.specs.declared.Order.the-variants.{Unsigned}
-use Rattle.definitions.specs.Table.{tableOf}
+use Rattle.definitions.specs.Table.{tableOf, ruleCount}
 use Rattle.definitions.specs.Occurrences.{occurrences}
 use Rattle.definitions.specs.Services.{Service, done, textTooLong, patternChecks}
 use Rattle.definitions.specs.Programs.{named, printed, motifOf, driveOf, inputTooLong, rulesName, foundLines}
@@ -24,7 +24,7 @@ motifStep input =
 unfoldable pub searchOutput : Order → List ℕ → List ℕ
 searchOutput o input =
     printed (patternChecks (motifOf input))
-    (named rulesName (length (tableOf o (driveOf input) 0) / 2) ++ foundLines (occurrences (motifOf input) (driveOf input)))
+    (named rulesName (ruleCount (tableOf o (driveOf input) 0)) ++ foundLines (occurrences (motifOf input) (driveOf input)))
 
 -- the table of the input's drive is built
 pub record Built (input t : List ℕ) : Type 0 where

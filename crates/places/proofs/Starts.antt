@@ -5,7 +5,7 @@ use mathlib.Core.Logic.{⊎-elim}
 use mathlib.Core.List.{List, _++_}
 use Prim.Native.Nat.{ℕ, suc, _+_, _-_, _≤_, _<_}
 use native.Mathlib.Omega.{arith}
-use lib.ListN.{length, getD, set, length-append}
+use lib.ListN.{length, set, length-append}
 use lib.Seq.{getD-set-same, getD-set-other, take-length}
 use Rattle.definitions.specs.declared.Order.{Order}
 use Rattle.definitions.specs.Table.{marked, ruleString}
@@ -13,10 +13,12 @@ use Rattle.lists.specs.Lists.{split-same-left, split-same-right}
 use Rattle.lists.specs.Numbers.{split-lt}
 use Rattle.lists.specs.Parts.{part, part-length, part-append}
 use Rattle.lyndon.specs.Ranks.{marked-length}
+use Rattle.lyndon.specs.Reading.{rule-range}
+use Rattle.layout.specs.Layout.{PLACES, lengthIn, placeIn}
 use Rattle.places.specs.Places.{StandsAt, Placed}
 use Rattle.places.specs.Passes.{Source, tableIn, rulesIn, Half, Stands, Sizing, Placing}
 use Rattle.places.proofs.Strings.{root-string, later-half}
-use Rattle.places.proofs.Rules.{Halves, rules-most}
+use Rattle.places.proofs.Rules.{PairOf}
 use Rattle.places.proofs.Sizes.{sizing-set}
 
 -- ---- places of strings
@@ -49,26 +51,26 @@ halves-stand o t s r u v x e p =
 
 -- ---- a right place is stored
 
-module _ (g : Source) (w : List ℕ) (q x : ℕ) (h : 4352 + q < length w) (p : StandsAt (g .order) (tableIn g) (marked (g .order) (g .text)) q x) where
-  stands-stored : Stands g (set w (4352 + q) x) q
-  stands-stored = subst (λ (y : ℕ). StandsAt (g .order) (tableIn g) (marked (g .order) (g .text)) q y) (sym (getD-set-same w (4352 + q) x 0 h)) p
+module _ (g : Source) (w : List ℕ) (q x : ℕ) (h : PLACES + q < length w) (p : StandsAt (g .order) (tableIn g) (marked (g .order) (g .text)) q x) where
+  stands-stored : Stands g (set w (PLACES + q) x) q
+  stands-stored = subst (λ (y : ℕ). StandsAt (g .order) (tableIn g) (marked (g .order) (g .text)) q y) (sym (getD-set-same w (PLACES + q) x 0 h)) p
 
-  stands-kept : (r : ℕ) → Stands g w r → Stands g (set w (4352 + q) x) r
+  stands-kept : (r : ℕ) → Stands g w r → Stands g (set w (PLACES + q) x) r
   stands-kept r k = split-lt r q
       (λ l. other (λ z. omega arith))
-      (λ e. subst (λ (y : ℕ). Stands g (set w (4352 + q) x) y) (sym e) stands-stored)
+      (λ e. subst (λ (y : ℕ). Stands g (set w (PLACES + q) x) y) (sym e) stands-stored)
       (λ l. other (λ z. omega arith))
     where
-      other : (4352 + r ≡ 4352 + q → ⊥) → Stands g (set w (4352 + q) x) r
-      other d = subst (λ (y : ℕ). StandsAt (g .order) (tableIn g) (marked (g .order) (g .text)) r y) (sym (getD-set-other w (4352 + q) (4352 + r) x 0 d)) k
+      other : (PLACES + r ≡ PLACES + q → ⊥) → Stands g (set w (PLACES + q) x) r
+      other d = subst (λ (y : ℕ). StandsAt (g .order) (tableIn g) (marked (g .order) (g .text)) r y) (sym (getD-set-other w (PLACES + q) (PLACES + r) x 0 d)) k
 
 placing-set : (g : Source) (w : List ℕ) (n q x : ℕ) → Placing g n w → q < rulesIn g → StandsAt (g .order) (tableIn g) (marked (g .order) (g .text)) q x
-    → Placing g n (set w (4352 + q) x) × Stands g (set w (4352 + q) x) q
+    → Placing g n (set w (PLACES + q) x) × Stands g (set w (PLACES + q) x) q
 placing-set g w n q x k l p =
     let most = k .sizing .most in
-    let h : 4352 + q < length w = omega (arith, k .sizing .kept .long) in (
+    let h : PLACES + q < length w = omega (arith, k .sizing .kept .long) in (
       record {
-        sizing = sizing-set g w (4352 + q) x (k .sizing) (omega arith) (omega arith);
+        sizing = sizing-set g w (PLACES + q) x (k .sizing) (omega arith) (omega arith);
         root = stands-kept g w q x h p (rulesIn g - 1) (k .root);
         halves = λ i r a b c. stands-kept g w q x h p r (k .halves i r a b c);
       },
@@ -91,9 +93,9 @@ place-symbol g w r k none = record {
   halves = λ i q a b c. split-lt i r (λ m. absurd (omega arith)) (λ m. absurd (none q (subst (λ (y : ℕ). Half (tableIn g) y q) m c))) (λ m. k .halves i q (omega arith) b c);
 }
 
-module _ (g : Source) (w : List ℕ) (r u v : ℕ) (k : Placing g (r + 1) w) (h : r < rulesIn g) (p : Halves (g .order) (tableIn g) r u v) where
+module _ (g : Source) (w : List ℕ) (r u v : ℕ) (k : Placing g (r + 1) w) (h : r < rulesIn g) (p : PairOf (g .order) (tableIn g) r u v) where
   -- the right half's place is no more than the length of the text
-  pub pair-room : getD w (4352 + r) 0 + getD w (2048 + u) 0 ≤ 2048
+  pub pair-room : placeIn w r + lengthIn w u ≤ 2048
   pair-room =
       let at = reached g w (r + 1) r k (omega arith) h in
       omega (
@@ -106,14 +108,14 @@ module _ (g : Source) (w : List ℕ) (r u v : ℕ) (k : Placing g (r + 1) w) (h 
         k .sizing .kept .stored .short,
       )
 
-  pub place-pair : (z : List ℕ) → z ≡ set (set w (4352 + u) (getD w (4352 + r) 0)) (4352 + v) (getD w (4352 + r) 0 + getD w (2048 + u) 0) → Placing g r z
+  pub place-pair : (z : List ℕ) → z ≡ set (set w (PLACES + u) (placeIn w r)) (PLACES + v) (placeIn w r + lengthIn w u) → Placing g r z
   place-pair z e =
-      let x = getD w (4352 + r) 0 in
+      let x = placeIn w r in
       let (a, b) = halves-stand (g .order) (tableIn g) (marked (g .order) (g .text)) r u v x (p .string) (reached g w (r + 1) r k (omega arith) h) in
-      let y = x + getD w (2048 + u) 0 in
+      let y = x + lengthIn w u in
       let c : StandsAt (g .order) (tableIn g) (marked (g .order) (g .text)) v y =
       subst (λ (m : ℕ). StandsAt (g .order) (tableIn g) (marked (g .order) (g .text)) v (x + m)) (sym (k .sizing .sizes u (omega (arith, p .left)))) b in
-      let w₁ = set w (4352 + u) x in
+      let w₁ = set w (PLACES + u) x in
       let (k₁, left) = placing-set g w (r + 1) u x k (omega (arith, p .left)) a in
       let (k₂, right) = placing-set g w₁ (r + 1) v y k₁ (omega (arith, p .right)) c in
       let most = k .sizing .most in
@@ -124,18 +126,18 @@ module _ (g : Source) (w : List ℕ) (r u v : ℕ) (k : Placing g (r + 1) w) (h 
         halves = λ i q m n half. split-lt i r
             (λ l. absurd (omega arith))
             (λ l. ⊎-elim
-            (λ s. subst (λ (j : ℕ). Stands g (set w₁ (4352 + v) y) j) (sym s) left₂)
-            (λ s. subst (λ (j : ℕ). Stands g (set w₁ (4352 + v) y) j) (sym s) right)
+            (λ s. subst (λ (j : ℕ). Stands g (set w₁ (PLACES + v) y) j) (sym s) left₂)
+            (λ s. subst (λ (j : ℕ). Stands g (set w₁ (PLACES + v) y) j) (sym s) right)
             (p .only q (subst (λ (j : ℕ). Half (tableIn g) j q) l half)))
             (λ l. k₂ .halves i q (omega arith) n half);
       }
 
 -- ---- the beginning and the end
 
-pub place-start : (g : Source) (w v : List ℕ) (rules : ℕ) → rules ≡ rulesIn g → Sizing g rules w → v ≡ set w (4352 + (rules - 1)) 0 → Placing g rules v
+pub place-start : (g : Source) (w v : List ℕ) (rules : ℕ) → rules ≡ rulesIn g → Sizing g rules w → v ≡ set w (PLACES + (rules - 1)) 0 → Placing g rules v
 place-start g w v rules e s f =
     let whole = root-string (g .order) (g .text) (g .chair) (s .kept .stored) in
-    let (some, most) = rules-most g (s .kept .stored) in
+    let (some, most) = rule-range (g .order) (g .text) (g .chair) (s .kept .stored) in
     let size = ap length whole in
     let front : StandsAt (g .order) (tableIn g) (marked (g .order) (g .text)) (rulesIn g - 1) 0 =
     record {
@@ -143,7 +145,7 @@ place-start g w v rules e s f =
       same = ap (λ (n : ℕ). part 0 n (marked (g .order) (g .text))) size ∙ whole-part (marked (g .order) (g .text)) ∙ sym whole;
     } in
     rw (f, e) record {
-      sizing = sizing-set g w (4352 + (rulesIn g - 1)) 0 (subst (λ (n : ℕ). Sizing g n w) e s) (omega arith) (omega arith);
+      sizing = sizing-set g w (PLACES + (rulesIn g - 1)) 0 (subst (λ (n : ℕ). Sizing g n w) e s) (omega arith) (omega arith);
       root = stands-stored g w (rulesIn g - 1) 0 (omega (arith, s .kept .long)) front;
       halves = λ k r a b c. absurd (omega arith);
     }

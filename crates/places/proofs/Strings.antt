@@ -3,13 +3,12 @@
 use mathlib.Core.Path.{_≡_, sym, _∙_, ap}
 use mathlib.Core.Logic.{_⊎_, inl, inr, ⊎-elim}
 use mathlib.Core.List.{List, [], _++_}
-use Prim.Native.Nat.{ℕ, suc, _+_, _-_, _*_, _/_, _≤_, _<_}
+use Prim.Native.Nat.{ℕ, suc, _+_, _-_, _*_, _≤_, _<_}
 use native.Mathlib.Omega.{arith}
 use lib.ListN.{length, getD, length-append}
 use Rattle.definitions.specs.declared.Order.{Order}
 use Rattle.definitions.specs.Grammar.{leftOf, rightOf, indexOf, order as orderOf}
-use Rattle.definitions.specs.Table.{marked, wordOf, kindOf, numberOf, tableOf, ruleString, spelled}
-use Rattle.lyndon.specs.Words.{Lyndon}
+use Rattle.definitions.specs.Table.{marked, wordOf, kindOf, numberOf, tableOf, ruleString, spelled, ruleCount}
 use Rattle.lyndon.specs.Sequence.{order-all, order-half}
 use Rattle.lyndon.specs.Ranks.{marked-lyndon}
 use Rattle.lyndon.specs.Encoding.{word-kind, word-number}
@@ -18,9 +17,6 @@ use Rattle.lyndon.specs.Reading.{Stored, storable, table-words, table-rules, ta
 use Rattle.places.specs.Passes.{Half}
 
 module _ (o : Order) (text : List ℕ) (chair : ℕ) (ok : Stored text chair) where
-  word-lyndon : Lyndon (marked o text)
-  word-lyndon = marked-lyndon o text (ok .bytes)
-
   once : (r : ℕ) → r < length (orderOf (marked o text)) → indexOf (getD (orderOf (marked o text)) r []) (orderOf (marked o text)) ≡ r
   once r h = storable o text chair ok .numbered .once r h
 
@@ -28,16 +24,16 @@ module _ (o : Order) (text : List ℕ) (chair : ℕ) (ok : Stored text chair) wh
   unfolding ruleString
   string-at r = ap (λ (S : List (List ℕ)). getD S r []) (table-strings o text chair ok)
 
-  pub string-short : (r : ℕ) → r < length (tableOf o text chair) / 2 → length (ruleString o (tableOf o text chair) r) ≤ length (marked o text)
+  pub string-short : (r : ℕ) → r < ruleCount (tableOf o text chair) → length (ruleString o (tableOf o text chair) r) ≤ length (marked o text)
   string-short r h =
       let l : r < length (orderOf (marked o text)) = omega (arith, table-rules o text chair ok) in
       rw (string-at r)
-      (order-all (λ x. length x ≤ length (marked o text)) parts (marked o text) word-lyndon (omega arith) (getD (orderOf (marked o text)) r []) (omega (arith, once r l)))
+      (order-all (λ x. length x ≤ length (marked o text)) parts (marked o text) (marked-lyndon o text (ok .bytes)) (omega arith) (getD (orderOf (marked o text)) r []) (omega (arith, once r l)))
     where
       parts : (u v : List ℕ) → length (u ++ v) ≤ length (marked o text) → (length u ≤ length (marked o text)) × (length v ≤ length (marked o text))
       parts u v k = let sum = length-append u v in (omega arith, omega arith)
 
-  pub root-string : ruleString o (tableOf o text chair) (length (tableOf o text chair) / 2 - 1) ≡ marked o text
+  pub root-string : ruleString o (tableOf o text chair) (ruleCount (tableOf o text chair) - 1) ≡ marked o text
   unfolding spelled
   root-string = table-spelled o text chair ok
 
@@ -62,9 +58,9 @@ module _ (o : Order) (text : List ℕ) (chair : ℕ) (ok : Stored text chair) wh
             half,
       )
 
-  pub later-half : (r : ℕ) → suc r < length (tableOf o text chair) / 2
-      → (k : ℕ) × (r < k) × (k < length (tableOf o text chair) / 2) × Half (tableOf o text chair) k r
+  pub later-half : (r : ℕ) → suc r < ruleCount (tableOf o text chair)
+      → (k : ℕ) × (r < k) × (k < ruleCount (tableOf o text chair)) × Half (tableOf o text chair) k r
   later-half r h =
       let n = table-rules o text chair ok in
-      let (k, a, b, c, d) = order-half (marked o text) word-lyndon r (omega arith) in
+      let (k, a, b, c, d) = order-half (marked o text) (marked-lyndon o text (ok .bytes)) r (omega arith) in
       (k, a, omega arith, entry-half k r a b c d (entry o (orderOf (marked o text)) chair k (storable o text chair ok) b))

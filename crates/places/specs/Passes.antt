@@ -3,10 +3,11 @@
 use mathlib.Core.Path.{_≡_}
 use mathlib.Core.Logic.{_⊎_}
 use mathlib.Core.List.{List}
-use Prim.Native.Nat.{ℕ, _+_, _-_, _*_, _/_, _≤_, _<_}
-use lib.ListN.{length, getD}
+use Prim.Native.Nat.{ℕ, _+_, _-_, _*_, _≤_, _<_}
+use lib.ListN.{getD}
 use Rattle.definitions.specs.declared.Order.{Order}
-use Rattle.definitions.specs.Table.{marked, kindOf, numberOf, tableOf}
+use Rattle.definitions.specs.Table.{marked, kindOf, numberOf, tableOf, ruleCount}
+use Rattle.layout.specs.Layout.{placeIn}
 use Rattle.places.specs.Places.{Kept, Sized, StandsAt}
 
 -- what the table is made of
@@ -19,7 +20,7 @@ abbrev pub tableIn : Source → List ℕ
 tableIn g = tableOf (g .order) (g .text) (g .chair)
 
 abbrev pub rulesIn : Source → ℕ
-rulesIn g = length (tableOf (g .order) (g .text) (g .chair)) / 2
+rulesIn g = ruleCount (tableOf (g .order) (g .text) (g .chair))
 
 -- rule r is a half of rule k of the table t
 abbrev pub Half : List ℕ → ℕ → ℕ → Type 0
@@ -27,7 +28,7 @@ Half t k r = (kindOf (getD t (2 * k) 0) ≡ 1) × ((numberOf (getD t (2 * k) 0) 
 
 -- the string of rule r stands at the place that is stored for it
 abbrev pub Stands : Source → List ℕ → ℕ → Type 0
-Stands g w r = StandsAt (g .order) (tableIn g) (marked (g .order) (g .text)) r (getD w (4352 + r) 0)
+Stands g w r = StandsAt (g .order) (tableIn g) (marked (g .order) (g .text)) r (placeIn w r)
 
 -- the rules before n have their lengths
 pub record Sizing (g : Source) (n : ℕ) (w : List ℕ) : Type 0 where

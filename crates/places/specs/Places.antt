@@ -2,31 +2,32 @@
 -- place of the marked text at which it stands. t is the table that is loaded.
 use mathlib.Core.Path.{_≡_}
 use mathlib.Core.List.{List}
-use Prim.Native.Nat.{ℕ, suc, _+_, _/_, _≤_, _<_}
-use lib.ListN.{length, getD}
+use Prim.Native.Nat.{ℕ, suc, _+_, _≤_, _<_}
+use lib.ListN.{length}
 use Rattle.definitions.specs.declared.Order.{Order}
-use Rattle.definitions.specs.Table.{marked, tableOf, ruleString}
+use Rattle.definitions.specs.Table.{marked, tableOf, ruleString, ruleCount}
 use Rattle.lists.specs.Parts.{part}
 use Rattle.lyndon.specs.Reading.{Stored}
+use Rattle.layout.specs.Layout.{TABLE, WORK, lengthIn, placeIn}
 
 -- ranks and table of a text, as loading left them
 pub record Kept (o : Order) (text : List ℕ) (chair : ℕ) (w : List ℕ) : Type 0 where
-  pub long : 16384 ≤ length w
+  pub long : WORK ≤ length w
   pub stored : Stored text chair
   pub ranks : part 0 (suc (length text)) w ≡ marked o text
-  pub table : part 11520 (length (tableOf o text chair)) w ≡ tableOf o text chair
+  pub table : part TABLE (length (tableOf o text chair)) w ≡ tableOf o text chair
 
--- the lengths of the first n rules' strings, from 2,048 on
+-- the lengths of the first n rules' strings, from LENGTHS on
 abbrev pub Sized : Order → List ℕ → ℕ → List ℕ → Type 0
-Sized o t n w = (r : ℕ) → r < n → getD w (2048 + r) 0 ≡ length (ruleString o t r)
+Sized o t n w = (r : ℕ) → r < n → lengthIn w r ≡ length (ruleString o t r)
 
 -- the string of rule r stands in s at x
 pub record StandsAt (o : Order) (t s : List ℕ) (r x : ℕ) : Type 0 where
   pub inside : x + length (ruleString o t r) ≤ length s
   pub same : part x (length (ruleString o t r)) s ≡ ruleString o t r
 
--- lengths, and places from 4,352 on, of every rule
+-- lengths, and places from PLACES on, of every rule
 pub record Placed (o : Order) (text : List ℕ) (chair : ℕ) (w : List ℕ) : Type 0 where
   pub kept : Kept o text chair w
-  pub sizes : Sized o (tableOf o text chair) (length (tableOf o text chair) / 2) w
-  pub places : (r : ℕ) → r < length (tableOf o text chair) / 2 → StandsAt o (tableOf o text chair) (marked o text) r (getD w (4352 + r) 0)
+  pub sizes : Sized o (tableOf o text chair) (ruleCount (tableOf o text chair)) w
+  pub places : (r : ℕ) → r < ruleCount (tableOf o text chair) → StandsAt o (tableOf o text chair) (marked o text) r (placeIn w r)

@@ -2,24 +2,25 @@
 //
 // The lengths go from the first rule up; the places from the root down: a rule's left half stands where the rule does, its right half behind it.
 // Each pass reads a rule once. A rule that is a half of several rules keeps the place that was stored last: any of them is right.
-use ends::layout::KIND_1;
-use ends::layout::LENGTHS;
-use ends::layout::PLACES;
-use ends::layout::TABLE;
+use layout::KIND;
+use layout::LENGTHS;
+use layout::PLACES;
+use layout::TABLE;
 use slices::put;
 use slices::wide;
 ghost use mathlib.Core.Path.{_≡_};
-ghost use Prim.Native.Nat.{_+_, _/_, _≤_, _<_};
-ghost use lib.ListN.{length, getD, set};
-ghost use Rattle.definitions.specs.Table.{tableOf, ruleString};
-ghost use Rattle.grammar.specs.Loaded.{Ready};
+ghost use Prim.Native.Nat.{_+_, _≤_, _<_};
+ghost use lib.ListN.{length, set};
+ghost use Rattle.definitions.specs.Table.{ruleString};
+ghost use Rattle.layout.specs.Layout.{PLACES, WORK, lengthIn, placeIn};
+ghost use Rattle.grammar.specs.Loaded.{Ready, rulesLoaded};
 ghost use Rattle.places.specs.Places.{Placed};
 ghost use Rattle.places.specs.Passes.{Source, tableIn, rulesIn, Sizing, Placing};
 
 // Stores for each rule of the table that is loaded the length of its string and a place of the marked text at which it stands.
 pub fn place_rules(work: &mut [u32], rules: usize)
-    requires { ⌜ ((h : Ready (now work)) × (rules ≡ length (tableOf (h .order) (h .text) (h .chair)) / 2)) ⌝ }
-    ensures { λ _. ⌜ ((h : Ready (now (work .entry))) → rules ≡ length (tableOf (h .order) (h .text) (h .chair)) / 2 → Placed (h .order) (h .text) (h .chair) (now (work .exit))) ⌝ }
+    requires { ⌜ ((h : Ready (now work)) × (rules ≡ rulesLoaded h)) ⌝ }
+    ensures { λ _. ⌜ ((h : Ready (now (work .entry))) → rules ≡ rulesLoaded h → Placed (h .order) (h .text) (h .chair) (now (work .exit))) ⌝ }
 {
     size_all(work, rules);
     put(work, PLACES + (rules - 1), 0);
@@ -53,12 +54,12 @@ fn length_of(work: &[u32], r: usize) -> u32
     ensures { λ n. ⌜ ((g : Source) → r < rulesIn g → Sizing g r (now (work .entry)) → n ≡ length (ruleString (g .order) (tableIn g) r)) ⌝ }
 {
     let x = work[TABLE + 2 * r];
-    if x < KIND_1 {
+    if x < KIND {
         return 1;
     }
     let y = work[TABLE + 2 * r + 1];
-    let left = wide(x % KIND_1);
-    let right = wide(y % KIND_1);
+    let left = wide(x % KIND);
+    let right = wide(y % KIND);
     work[LENGTHS + left] + work[LENGTHS + right]
 }
 
@@ -80,19 +81,19 @@ fn place_halves(work: &mut [u32], r: usize)
     ensures { λ _. ⌜ ((g : Source) → r < rulesIn g → Placing g (r + 1) (now (work .entry)) → Placing g r (now (work .exit))) ⌝ }
 {
     let x = work[TABLE + 2 * r];
-    if x < KIND_1 {
+    if x < KIND {
         return;
     }
     let y = work[TABLE + 2 * r + 1];
-    let left = wide(x % KIND_1);
-    let right = wide(y % KIND_1);
+    let left = wide(x % KIND);
+    let right = wide(y % KIND);
     place_pair(work, r, left, right);
 }
 
 // The left half stands where the rule does, the right half behind the left.
 fn place_pair(work: &mut [u32], r: usize, left: usize, right: usize)
-    requires { ⌜ (r < 2304) × (left < 2304) × (right < 2304) × (16384 ≤ length (now work)) × (getD (now work) (4352 + r) 0 + getD (now work) (2048 + left) 0 ≤ 2048) ⌝ }
-    ensures { λ _. ⌜ now (work .exit) ≡ set (set (now (work .entry)) (4352 + left) (getD (now (work .entry)) (4352 + r) 0)) (4352 + right) (getD (now (work .entry)) (4352 + r) 0 + getD (now (work .entry)) (2048 + left) 0) ⌝ }
+    requires { ⌜ (r < 2304) × (left < 2304) × (right < 2304) × (WORK ≤ length (now work)) × (placeIn (now work) r + lengthIn (now work) left ≤ 2048) ⌝ }
+    ensures { λ _. ⌜ now (work .exit) ≡ set (set (now (work .entry)) (PLACES + left) (placeIn (now (work .entry)) r)) (PLACES + right) (placeIn (now (work .entry)) r + lengthIn (now (work .entry)) left) ⌝ }
 {
     let start = work[PLACES + r];
     let behind = start + work[LENGTHS + left];

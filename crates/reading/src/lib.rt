@@ -7,7 +7,7 @@ use definitions::Order;
 use definitions::Reading;
 use delivery::deliver_part;
 use delivery::deliver_text;
-use ends::layout::WORK;
+use layout::WORK;
 use shapes::shaped;
 ghost use mathlib.Core.Path.{_≡_};
 ghost use Prim.Native.Nat.{_/_, _≤_};
@@ -16,7 +16,8 @@ ghost use Rattle.definitions.specs.declared.Order.the-variants.{Unsigned};
 ghost use Rattle.definitions.specs.Table.{textOf};
 ghost use Rattle.definitions.specs.Services.{outcomeOf, readingOutcome, outcome, resultAfter, workAfter, cleared, readService, extractService};
 ghost use Rattle.lyndon.specs.Shapes.{Shaped};
-ghost use Rattle.checks.specs.Checks.{answered, delivered, readChecks, extractChecks};
+ghost use Rattle.layout.specs.Layout.{WORK};
+ghost use Rattle.checks.specs.Checks.{Loadable, answered, delivered, readChecks, extractChecks};
 
 // Reads a table back. Refuses by 4 to 7, 9; success answers the number of samples and the chair number.
 pub fn read(table: &[u32], work: &mut [u32], result: &mut [u8]) -> Reading
@@ -41,7 +42,7 @@ fn read_shaped(
     work: &mut [u32],
     result: &mut [u8],
 ) -> Answer
-    requires { ⌜ Shaped (now table) × (length (now table) ≤ 4608) × (16384 ≤ length (now work)) × (rules ≡ length (now table) / 2) ⌝ }
+    requires { ⌜ Loadable (now table) rules (now work) ⌝ }
     ensures { λ r. ⌜ r ≡ answered (readChecks order (now (table .entry)) (length (now (result .entry)))) (length (textOf order (now (table .entry)))) ⌝ }
     ensures { λ _. ⌜ now (result .exit) ≡ delivered (readChecks order (now (table .entry)) (length (now (result .entry)))) (textOf order (now (table .entry))) (now (result .entry)) ⌝ }
     ensures { λ _. ⌜ now (work .exit) ≡ cleared (now (work .entry)) ⌝ }
@@ -53,7 +54,7 @@ fn read_shaped(
 
 // The same in 16,384 words, which are not cleared here.
 fn read_in(order: Order, table: &[u32], rules: usize, work: &mut [u32], result: &mut [u8]) -> Answer
-    requires { ⌜ Shaped (now table) × (length (now table) ≤ 4608) × (16384 ≤ length (now work)) × (rules ≡ length (now table) / 2) ⌝ }
+    requires { ⌜ Loadable (now table) rules (now work) ⌝ }
     ensures { λ r. ⌜ r ≡ answered (readChecks order (now (table .entry)) (length (now (result .entry)))) (length (textOf order (now (table .entry)))) ⌝ }
     ensures { λ _. ⌜ now (result .exit) ≡ delivered (readChecks order (now (table .entry)) (length (now (result .entry)))) (textOf order (now (table .entry))) (now (result .entry)) ⌝ }
 {
@@ -92,7 +93,7 @@ fn extract_shaped(
     work: &mut [u32],
     result: &mut [u8],
 ) -> Answer
-    requires { ⌜ Shaped (now table) × (length (now table) ≤ 4608) × (16384 ≤ length (now work)) ⌝ }
+    requires { ⌜ Shaped (now table) × (length (now table) ≤ 4608) × (WORK ≤ length (now work)) ⌝ }
     ensures { λ r. ⌜ r ≡ answered (extractChecks order (now (table .entry)) start count (length (now (result .entry)))) (length (take count (drop start (textOf order (now (table .entry)))))) ⌝ }
     ensures { λ _. ⌜ now (result .exit) ≡ delivered (extractChecks order (now (table .entry)) start count (length (now (result .entry)))) (take count (drop start (textOf order (now (table .entry))))) (now (result .entry)) ⌝ }
     ensures { λ _. ⌜ now (work .exit) ≡ cleared (now (work .entry)) ⌝ }
@@ -111,7 +112,7 @@ fn extract_in(
     work: &mut [u32],
     result: &mut [u8],
 ) -> Answer
-    requires { ⌜ Shaped (now table) × (length (now table) ≤ 4608) × (16384 ≤ length (now work)) ⌝ }
+    requires { ⌜ Shaped (now table) × (length (now table) ≤ 4608) × (WORK ≤ length (now work)) ⌝ }
     ensures { λ r. ⌜ r ≡ answered (extractChecks order (now (table .entry)) start count (length (now (result .entry)))) (length (take count (drop start (textOf order (now (table .entry)))))) ⌝ }
     ensures { λ _. ⌜ now (result .exit) ≡ delivered (extractChecks order (now (table .entry)) start count (length (now (result .entry)))) (take count (drop start (textOf order (now (table .entry))))) (now (result .entry)) ⌝ }
 {

@@ -1,28 +1,12 @@
 // Answers as structs, for interfaces without enums.
 use definitions::Answer;
 use definitions::Reading;
+use definitions::Reply;
 use definitions::Search;
+use definitions::SearchReply;
 ghost use mathlib.Core.Path.{_≡_};
 ghost use Rattle.definitions.specs.Services.{done, refused, numbersOf, outcomeOf, readingOutcome, searchOutcome};
-ghost use Rattle.replies.specs.Replies.{replyNumbers, searchNumbers};
-
-// number: 0 on success, else the refusal's.
-#[repr(C)]
-pub struct Reply {
-    pub number: u32,
-    pub chair: u32,
-    pub place: u64,
-    pub count: u64,
-}
-
-// What counting and locating reply with.
-#[repr(C)]
-pub struct SearchReply {
-    pub number: u32,
-    pub chair: u32,
-    pub place: u64,
-    pub count: u64,
-}
+ghost use Rattle.definitions.specs.Replies.{replyNumbers, searchNumbers};
 
 // An answer as a struct.
 pub fn replied(a: Answer) -> Reply
@@ -58,6 +42,7 @@ pub fn replied_search(s: Search) -> SearchReply
     }
 }
 
+// The reply of success.
 fn success(count: usize, chair: u16) -> Reply
     ensures { λ r. ⌜ replyNumbers r ≡ numbersOf (done count chair) ⌝ }
 {
@@ -69,6 +54,7 @@ fn success(count: usize, chair: u16) -> Reply
     }
 }
 
+// The reply of a refusal.
 fn refusal(number: u32, place: usize) -> Reply
     ensures { λ r. ⌜ replyNumbers r ≡ numbersOf (refused number place) ⌝ }
 {

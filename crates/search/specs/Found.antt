@@ -8,6 +8,7 @@ use lib.ListN.{length}
 use Rattle.definitions.specs.declared.Order.{Order}
 use Rattle.definitions.specs.Table.{ruleString, isPair, leftHalf, rightHalf}
 use Rattle.definitions.specs.Occurrences.{occurrences, straddling}
+use Rattle.layout.specs.Layout.{PACK}
 use Rattle.joins.specs.Joining.{cutPlace}
 
 -- the occurrences in the rule's string
@@ -20,7 +21,7 @@ acrossJoin o t p r = straddling p (leftHalf o t r) (rightHalf o t r)
 
 -- x holds the number of occurrences times 4096 and the cut at the join, 0 where the rule is a symbol's
 pub record FoundIn (o : Order) (t p : List ℕ) (r x : ℕ) : Type 0 where
-  pub number : x / 4096 ≡ length (occursIn o t p r)
-  pub inside : isPair t r ≡ true → x % 4096 ≤ length (leftHalf o t r)
-  pub cut : isPair t r ≡ true → acrossJoin o t p r ≡ cutPlace (length (leftHalf o t r)) (x % 4096)
-  pub no-cut : isPair t r ≡ false → x % 4096 ≡ 0
+  pub number : x / PACK ≡ length (occursIn o t p r)
+  pub inside : isPair t r ≡ true → x % PACK ≤ length (leftHalf o t r)
+  pub cut : isPair t r ≡ true → acrossJoin o t p r ≡ cutPlace (length (leftHalf o t r)) (x % PACK)
+  pub no-cut : isPair t r ≡ false → x % PACK ≡ 0

@@ -1,13 +1,14 @@
 -- What the work slice holds while the occurrences of a pattern are counted: beside what `Placed` says, flags of the cuts that
--- are tried, from 8,960 on, and what is found in each rule, from 6,656 on. p is the pattern as bytes.
+-- are tried, from FLAGS on, and what is found in each rule, from FOUND on. p is the pattern as bytes.
 use mathlib.Core.Path.{_≡_}
 use mathlib.Core.Bool.{true}
 use mathlib.Core.List.{List, map}
-use Prim.Native.Nat.{ℕ, _+_, _*_, _/_, _≤_, _<_}
+use Prim.Native.Nat.{ℕ, _+_, _*_, _≤_, _<_}
 use lib.ListN.{length, getD}
 use Rattle.definitions.specs.declared.Order.{Order}
-use Rattle.definitions.specs.Table.{rankOf, tableOf, isPair, kindOf, numberOf}
+use Rattle.definitions.specs.Table.{rankOf, tableOf, isPair, kindOf, numberOf, ruleCount}
 use Rattle.lyndon.specs.Ranks.{Bytes}
+use Rattle.layout.specs.Layout.{FOUND}
 use Rattle.places.specs.Places.{Placed}
 use Rattle.joins.specs.Joining.{Flagged}
 use Rattle.search.specs.Found.{FoundIn}
@@ -23,13 +24,13 @@ pub record Counting (o : Order) (p text : List ℕ) (chair n : ℕ) (w : List �
   pub loaded : Placed o text chair w
   pub pattern : Pattern p
   pub flagged : Flagged (map (rankOf o) p) w
-  pub found : (r : ℕ) → r < n → FoundIn o (tableOf o text chair) (map (rankOf o) p) r (getD w (6656 + r) 0)
+  pub found : (r : ℕ) → r < n → FoundIn o (tableOf o text chair) (map (rankOf o) p) r (getD w (FOUND + r) 0)
 
 -- all rules are counted
 pub record Searched (o : Order) (p text : List ℕ) (chair : ℕ) (w : List ℕ) : Type 0 where
   pub loaded : Placed o text chair w
   pub pattern : Pattern p
-  pub found : (r : ℕ) → r < length (tableOf o text chair) / 2 → FoundIn o (tableOf o text chair) (map (rankOf o) p) r (getD w (6656 + r) 0)
+  pub found : (r : ℕ) → r < ruleCount (tableOf o text chair) → FoundIn o (tableOf o text chair) (map (rankOf o) p) r (getD w (FOUND + r) 0)
 
 -- ---- what the functions start from
 
@@ -38,30 +39,30 @@ pub record Starts (o : Order) (rules : ℕ) (w : List ℕ) : Type 0 where
   pub text : List ℕ
   pub chair : ℕ
   pub loaded : Placed o text chair w
-  pub size : rules ≡ length (tableOf o text chair) / 2
+  pub size : rules ≡ ruleCount (tableOf o text chair)
 
 -- the same, and the first n rules are counted
 pub record Counts (o : Order) (p : List ℕ) (rules n : ℕ) (w : List ℕ) : Type 0 where
   pub text : List ℕ
   pub chair : ℕ
   pub counting : Counting o p text chair n w
-  pub size : rules ≡ length (tableOf o text chair) / 2
+  pub size : rules ≡ ruleCount (tableOf o text chair)
 
 -- the rules before rule r are counted
-pub record Turn (o : Order) (p : List ℕ) (r : ℕ) (w : List ℕ) : Type 0 where
+pub record CountedBefore (o : Order) (p : List ℕ) (r : ℕ) (w : List ℕ) : Type 0 where
   pub text : List ℕ
   pub chair : ℕ
   pub counting : Counting o p text chair r w
-  pub low : r < length (tableOf o text chair) / 2
+  pub low : r < ruleCount (tableOf o text chair)
 
 -- and rule r is a symbol's
 pub record Symbol (o : Order) (p : List ℕ) (r : ℕ) (w : List ℕ) : Type 0 where
-  pub turn : Turn o p r w
+  pub turn : CountedBefore o p r w
   pub is-symbol : kindOf (getD (tableOf o (turn .text) (turn .chair)) (2 * r) 0) ≡ 0
 
 -- or rule r is the pair of the rules u and v
 pub record Pair (o : Order) (p : List ℕ) (r u v : ℕ) (w : List ℕ) : Type 0 where
-  pub turn : Turn o p r w
+  pub turn : CountedBefore o p r w
   pub is-pair : isPair (tableOf o (turn .text) (turn .chair)) r ≡ true
   pub left : u ≡ numberOf (getD (tableOf o (turn .text) (turn .chair)) (2 * r) 0)
   pub right : v ≡ numberOf (getD (tableOf o (turn .text) (turn .chair)) (2 * r + 1) 0)

@@ -3,10 +3,6 @@
 // An occurrence in a pair rule lies in one of its halves or straddles its join, and there at a live cut. A rule's string stands
 // somewhere in the text, so a cut costs one comparison; at most n - m + 2 are made for m samples among n. Equal samples cost most.
 use definitions::Order;
-use ends::rank_of;
-use joins::areas::FOUND;
-use joins::areas::LIVE;
-use joins::areas::LIVE_END;
 use joins::areas::is_symbol;
 use joins::areas::left_of;
 use joins::areas::length_of;
@@ -14,23 +10,28 @@ use joins::areas::number_of;
 use joins::areas::place_of;
 use joins::areas::right_of;
 use joins::cut_at_join;
+use layout::FLAGS;
+use layout::FLAGS_END;
+use layout::FOUND;
+use ranks::rank_of;
 use slices::put;
 ghost use mathlib.Core.Path.{_≡_};
 ghost use mathlib.Core.List.{List, map};
 ghost use Prim.Native.Nat.{ℕ, _+_, _/_, _%_, _≤_, _<_, min};
 ghost use lib.ListN.{length};
-ghost use Rattle.definitions.specs.Table.{rankOf, tableOf};
+ghost use Rattle.definitions.specs.Table.{rankOf, tableOf, ruleCount};
 ghost use Rattle.definitions.specs.Occurrences.{occurrences};
+ghost use Rattle.layout.specs.Layout.{PACK};
 ghost use Rattle.places.specs.Places.{Placed};
 ghost use Rattle.search.specs.Found.{FoundIn};
-ghost use Rattle.search.specs.Searching.{Counting, Searched, Starts, Counts, Turn, Symbol, Pair};
+ghost use Rattle.search.specs.Searching.{Counting, Searched, Starts, Counts, CountedBefore, Symbol, Pair};
 
 // Counts the occurrences of a pattern in the text that is loaded, whose table has so many rules.
 pub fn count(order: Order, pattern: &[u8], work: &mut [u32], rules: usize) -> usize
     requires { ⌜ Starts order rules (now work) × (0 < length (now pattern)) × (length (now pattern) ≤ 2047) ⌝ }
-    ensures { λ n. ⌜ ((text : List ℕ) (chair : ℕ) → Placed order text chair (now (work .entry)) → rules ≡ length (tableOf order text chair) / 2 → (n ≡ length (occurrences (now (pattern .entry)) text)) × Searched order (now (pattern .entry)) text chair (now (work .exit))) ⌝ }
+    ensures { λ n. ⌜ ((text : List ℕ) (chair : ℕ) → Placed order text chair (now (work .entry)) → rules ≡ ruleCount (tableOf order text chair) → (n ≡ length (occurrences (now (pattern .entry)) text)) × Searched order (now (pattern .entry)) text chair (now (work .exit))) ⌝ }
 {
-    cuts::flag(order, pattern, &mut work[LIVE..LIVE_END]);
+    cuts::flag(order, pattern, &mut work[FLAGS..FLAGS_END]);
     count_rules(order, pattern, work, rules);
     number_of(work, rules - 1)
 }
@@ -38,7 +39,7 @@ pub fn count(order: Order, pattern: &[u8], work: &mut [u32], rules: usize) -> us
 // Counts the occurrences in every rule, from the first up.
 fn count_rules(order: Order, pattern: &[u8], work: &mut [u32], rules: usize)
     requires { ⌜ Counts order (now pattern) rules 0 (now work) ⌝ }
-    ensures { λ _. ⌜ ((text : List ℕ) (chair : ℕ) → Counting order (now (pattern .entry)) text chair 0 (now (work .entry)) → rules ≡ length (tableOf order text chair) / 2 → Counting order (now (pattern .entry)) text chair rules (now (work .exit))) ⌝ }
+    ensures { λ _. ⌜ ((text : List ℕ) (chair : ℕ) → Counting order (now (pattern .entry)) text chair 0 (now (work .entry)) → rules ≡ ruleCount (tableOf order text chair) → Counting order (now (pattern .entry)) text chair rules (now (work .exit))) ⌝ }
 {
     let mut r = 0;
     while r < rules {
@@ -50,8 +51,8 @@ fn count_rules(order: Order, pattern: &[u8], work: &mut [u32], rules: usize)
 
 // What is found in rule r: its occurrences times 4096 and the cut at its join.
 fn found_in(order: Order, pattern: &[u8], work: &[u32], r: usize) -> u32
-    requires { ⌜ Turn order (now pattern) r (now work) ⌝ }
-    ensures { λ x. ⌜ ((h : Turn order (now (pattern .entry)) r (now (work .entry))) → FoundIn order (tableOf order (h .text) (h .chair)) (map (rankOf order) (now (pattern .entry))) r x) ⌝ }
+    requires { ⌜ CountedBefore order (now pattern) r (now work) ⌝ }
+    ensures { λ x. ⌜ ((h : CountedBefore order (now (pattern .entry)) r (now (work .entry))) → FoundIn order (tableOf order (h .text) (h .chair)) (map (rankOf order) (now (pattern .entry))) r x) ⌝ }
 {
     if is_symbol(work, r) {
         return found_in_symbol(order, pattern, work, r);
@@ -88,7 +89,7 @@ fn found_in_pair(order: Order, pattern: &[u8], work: &[u32], r: usize, u: usize,
 // The occurrences in both halves and at the join, and the cut there.
 fn found(halves: usize, cut: usize) -> u32
     requires { ⌜ (halves ≤ 4096) × (cut < 4096) ⌝ }
-    ensures { λ x. ⌜ (x / 4096 ≡ halves + min 1 cut) × (x % 4096 ≡ cut) ⌝ }
+    ensures { λ x. ⌜ (x / PACK ≡ halves + min 1 cut) × (x % PACK ≡ cut) ⌝ }
 {
     if cut == 0 {
         return (halves * 4096) as u32;

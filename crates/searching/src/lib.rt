@@ -8,17 +8,15 @@ use definitions::Search;
 use delivery::count_loaded;
 use delivery::deliver_cuts;
 use delivery::locate_loaded;
-use ends::layout::WORK;
+use layout::WORK;
 use shapes::searchable;
 ghost use mathlib.Core.Path.{_≡_};
-ghost use Prim.Native.Nat.{_/_, _≤_, _<_};
 ghost use lib.ListN.{length};
 ghost use Rattle.definitions.specs.declared.Order.the-variants.{Unsigned};
 ghost use Rattle.definitions.specs.Occurrences.{occurrences};
 ghost use Rattle.definitions.specs.Table.{textOf};
 ghost use Rattle.definitions.specs.Services.{outcomeOf, searchOutcome, outcome, resultAfter, workAfter, cleared, notATable, countService, locateService, cutsService};
-ghost use Rattle.lyndon.specs.Shapes.{Shaped};
-ghost use Rattle.checks.specs.Checks.{checked, answered, delivered, locateChecks};
+ghost use Rattle.checks.specs.Checks.{Searchable, checked, answered, delivered, locateChecks};
 
 // Lists the live cuts of a pattern. Refuses by 2, 3, 9; success answers how many there are.
 pub fn live_cuts(pattern: &[u8], result: &mut [u32]) -> Answer
@@ -53,7 +51,7 @@ fn count_shaped(
     pattern: &[u8],
     work: &mut [u32],
 ) -> Answer
-    requires { ⌜ Shaped (now table) × (length (now table) ≤ 4608) × (16384 ≤ length (now work)) × (rules ≡ length (now table) / 2) × (0 < length (now pattern)) × (length (now pattern) ≤ 2047) ⌝ }
+    requires { ⌜ Searchable (now table) rules (now pattern) (now work) ⌝ }
     ensures { λ r. ⌜ r ≡ checked (notATable order (now (table .entry))) (length (occurrences (now (pattern .entry)) (textOf order (now (table .entry))))) ⌝ }
     ensures { λ _. ⌜ now (work .exit) ≡ cleared (now (work .entry)) ⌝ }
 {
@@ -64,7 +62,7 @@ fn count_shaped(
 
 // The same in 16,384 words, which are not cleared here.
 fn count_in(order: Order, table: &[u32], rules: usize, pattern: &[u8], work: &mut [u32]) -> Answer
-    requires { ⌜ Shaped (now table) × (length (now table) ≤ 4608) × (16384 ≤ length (now work)) × (rules ≡ length (now table) / 2) × (0 < length (now pattern)) × (length (now pattern) ≤ 2047) ⌝ }
+    requires { ⌜ Searchable (now table) rules (now pattern) (now work) ⌝ }
     ensures { λ r. ⌜ r ≡ checked (notATable order (now (table .entry))) (length (occurrences (now (pattern .entry)) (textOf order (now (table .entry))))) ⌝ }
 {
     let a = accepts(tables::load(order, table, work), rules);
@@ -97,7 +95,7 @@ fn locate_shaped(
     work: &mut [u32],
     result: &mut [u32],
 ) -> Answer
-    requires { ⌜ Shaped (now table) × (length (now table) ≤ 4608) × (16384 ≤ length (now work)) × (rules ≡ length (now table) / 2) × (0 < length (now pattern)) × (length (now pattern) ≤ 2047) ⌝ }
+    requires { ⌜ Searchable (now table) rules (now pattern) (now work) ⌝ }
     ensures { λ r. ⌜ r ≡ answered (locateChecks order (now (table .entry)) (now (pattern .entry)) (length (now (result .entry)))) (length (occurrences (now (pattern .entry)) (textOf order (now (table .entry))))) ⌝ }
     ensures { λ _. ⌜ now (result .exit) ≡ delivered (locateChecks order (now (table .entry)) (now (pattern .entry)) (length (now (result .entry)))) (occurrences (now (pattern .entry)) (textOf order (now (table .entry)))) (now (result .entry)) ⌝ }
     ensures { λ _. ⌜ now (work .exit) ≡ cleared (now (work .entry)) ⌝ }
@@ -116,7 +114,7 @@ fn locate_in(
     work: &mut [u32],
     result: &mut [u32],
 ) -> Answer
-    requires { ⌜ Shaped (now table) × (length (now table) ≤ 4608) × (16384 ≤ length (now work)) × (rules ≡ length (now table) / 2) × (0 < length (now pattern)) × (length (now pattern) ≤ 2047) ⌝ }
+    requires { ⌜ Searchable (now table) rules (now pattern) (now work) ⌝ }
     ensures { λ r. ⌜ r ≡ answered (locateChecks order (now (table .entry)) (now (pattern .entry)) (length (now (result .entry)))) (length (occurrences (now (pattern .entry)) (textOf order (now (table .entry))))) ⌝ }
     ensures { λ _. ⌜ now (result .exit) ≡ delivered (locateChecks order (now (table .entry)) (now (pattern .entry)) (length (now (result .entry)))) (occurrences (now (pattern .entry)) (textOf order (now (table .entry)))) (now (result .entry)) ⌝ }
 {

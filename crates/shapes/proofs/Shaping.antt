@@ -14,10 +14,11 @@ use Rattle.definitions.specs.Table.{badWord}
 use Rattle.definitions.specs.Services.{patternChecks, hasBadWord, tableLength}
 use Rattle.lists.specs.Bools.{contra}
 use Rattle.lists.specs.Numbers.{least-before}
+use Rattle.lists.specs.Decisions.{Passed, none, more}
 use Rattle.lyndon.specs.Shapes.{Shaped}
+use Rattle.layout.specs.Layout.{WORK}
 use Rattle.checks.specs.Checks.{checked, shapeChecks}
 use Rattle.checks.proofs.Serving.{Clear}
-use Rattle.checks.proofs.Decisions.{met, Passed, none, more}
 
 pub shape-keeps : (t : List ℕ) (n : ℕ) → Clear false (shapeChecks t n)
 shape-keeps t n = (refl, (refl, (refl, refl)))
@@ -51,8 +52,8 @@ word-refused t n i e h = simp (sym e, lt-ltb i (length t) h)
 pub words-passed : (t : List ℕ) (n i : ℕ) → i ≡ least (badWord t) (length t) → length t ≤ i → Done n ≡ checked (hasBadWord t) n
 words-passed t n i e h = simp (sym e, le-ltb i (length t) h)
 
-pub passed-shaped : (t : List ℕ) (n : ℕ) → Passed (shapeChecks t n) → Shaped t × (length t ≤ 4608) × (16384 ≤ n)
+pub passed-shaped : (t : List ℕ) (n : ℕ) → Passed (shapeChecks t n) → Shaped t × (length t ≤ 4608) × (WORK ≤ n)
 passed-shaped t n (more a e (more b f (more c g none))) =
     let (filled, even, most) = length-passed (length t) f in
     let all = ltb-false (least (badWord t) (length t)) (length t) g in
-    (record { good = λ i h. least-before (badWord t) (length t) i (omega arith); even = even; filled = filled }, most, ltb-false n 16384 e)
+    (record { good = λ i h. least-before (badWord t) (length t) i (omega arith); even = even; filled = filled }, most, ltb-false n WORK e)

@@ -7,12 +7,13 @@ ghost use mathlib.Core.Path.{_≡_};
 ghost use mathlib.Core.List.{_++_};
 ghost use Prim.Native.Nat.{_*_, _/_};
 ghost use lib.ListN.{length};
+ghost use Rattle.definitions.specs.Table.{ruleCount};
 ghost use Rattle.definitions.specs.Services.{patternChecks, hasBadWord};
 ghost use Rattle.checks.specs.Checks.{checked, answered, shapeChecks};
 
 // What can be said of a table before anything is written: refusals 4, 5, 6.
 pub fn shaped(table: &[u32], n: usize) -> Answer
-    ensures { λ r. ⌜ r ≡ answered (shapeChecks (now (table .entry)) n) (length (now (table .entry)) / 2) ⌝ }
+    ensures { λ r. ⌜ r ≡ answered (shapeChecks (now (table .entry)) n) (ruleCount (now (table .entry))) ⌝ }
 {
     let short = work_fits(n);
     let Answer::Done(_) = short else {
@@ -27,7 +28,7 @@ pub fn shaped(table: &[u32], n: usize) -> Answer
 
 // What can be said of a pattern and a table before anything is written: refusals 2 to 6.
 pub fn searchable(table: &[u32], pattern: &[u8], n: usize) -> Answer
-    ensures { λ r. ⌜ r ≡ answered (patternChecks (now (pattern .entry)) ++ shapeChecks (now (table .entry)) n) (length (now (table .entry)) / 2) ⌝ }
+    ensures { λ r. ⌜ r ≡ answered (patternChecks (now (pattern .entry)) ++ shapeChecks (now (table .entry)) n) (ruleCount (now (table .entry))) ⌝ }
 {
     let a = pattern_fits(pattern);
     let Answer::Done(_) = a else {
@@ -36,9 +37,10 @@ pub fn searchable(table: &[u32], pattern: &[u8], n: usize) -> Answer
     shaped(table, n)
 }
 
+// Refusal 6, or the number of rules.
 fn words_fit(table: &[u32]) -> Answer
-    requires { ⌜ length (now table) ≡ 2 * (length (now table) / 2) ⌝ }
-    ensures { λ r. ⌜ r ≡ checked (hasBadWord (now (table .entry))) (length (now (table .entry)) / 2) ⌝ }
+    requires { ⌜ length (now table) ≡ 2 * (ruleCount (now table)) ⌝ }
+    ensures { λ r. ⌜ r ≡ checked (hasBadWord (now (table .entry))) (ruleCount (now (table .entry))) ⌝ }
 {
     let i = bad_words::bad_word(table);
     if i < table.len() {

@@ -1,25 +1,21 @@
 -- The front of a slice as a loop writes it, one entry more a turn.
-use mathlib.Core.Path.{_≡_, refl, sym, _∙_, ap}
-use mathlib.Core.List.{List, [], _∷_, _++_, append-nil}
-use Prim.Native.Nat.{ℕ, zero, suc, _+_, _≤_, _<_}
+use mathlib.Core.Path.{_≡_, sym, _∙_, ap}
+use mathlib.Core.List.{List, append-nil}
+use Prim.Native.Nat.{ℕ, _+_, _≤_, _<_}
 use native.Mathlib.Omega.{arith}
 use native.Mathlib.Numerals.{add-one}
 use native.Mathlib.Nat.{le-refl}
-use lib.ListN.{length, take, getD, set, replicate, length-replicate, drop-of-length-le}
+use lib.ListN.{length, take, getD, set, replicate, length-replicate, replicate-append-replicate, drop-of-length-le}
 use lib.Seq.{take-suc, length-take-le}
 use Rattle.definitions.specs.Words.{placed}
 use Rattle.lists.specs.Lists.{placed-more}
-
-replicate-more : (n x : ℕ) → replicate n x ++ (x ∷ []) ≡ replicate (suc n) x
-replicate-more zero x = refl
-replicate-more (suc n) x = ap {B = List ℕ} (λ l. x ∷ l) (replicate-more n x)
 
 pub zero-more : (old s : List ℕ) (i : ℕ) → i < length old → s ≡ placed (replicate i 0) old → set s i 0 ≡ placed (replicate (i + 1) 0) old
 zero-more old s i h e =
     ap (λ (l : List ℕ). set l i 0) e
     ∙ ap (λ (n : ℕ). set (placed (replicate i 0) old) n 0) (sym (length-replicate {A = ℕ} i 0))
     ∙ sym (placed-more (replicate i 0) old 0 (omega (arith, length-replicate {A = ℕ} i 0)))
-    ∙ ap (λ (l : List ℕ). placed l old) (replicate-more i 0 ∙ ap (λ (n : ℕ). replicate n 0) (sym (add-one i)))
+    ∙ ap (λ (l : List ℕ). placed l old) (replicate-append-replicate {A = ℕ} i 1 0)
 
 -- a front as long as the slice is all of it
 pub zero-all : (old : List ℕ) (i : ℕ) → i ≡ length old → placed (replicate i 0) old ≡ replicate (length old) 0

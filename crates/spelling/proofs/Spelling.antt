@@ -3,7 +3,7 @@
 use mathlib.Core.Path.{_≡_, refl, sym, _∙_, ap, ap₂}
 use mathlib.Core.Bool.{true}
 use mathlib.Core.List.{List, [], _∷_, _++_, map, map-append, List·Memᴰ·head as here, List·Memᴰ·tail as there}
-use Prim.Native.Nat.{ℕ, zero, suc, _+_, _-_, _*_, _/_, _%_, _≤_, _<_}
+use Prim.Native.Nat.{ℕ, zero, suc, _+_, _-_, _*_, _%_, _≤_, _<_}
 use native.Mathlib.Omega.{arith}
 use native.Mathlib.Numerals.{add-one}
 use lib.ListN.{length, take, getD, set, length-append, length-map}
@@ -11,13 +11,13 @@ use lib.Seq.{take-suc, length-take-le}
 use Rattle.definitions.specs.declared.Order.{Order}
 use Rattle.definitions.specs.declared.Order.the-variants.{Unsigned}
 use Rattle.definitions.specs.Words.{placed}
-use Rattle.definitions.specs.Table.{rankOf, byteOf, rankOfNumber, marked, kindOf, numberOf, ruleString, spelled, textOf, isTable}
+use Rattle.definitions.specs.Table.{rankOf, byteOf, rankOfNumber, marked, kindOf, numberOf, ruleString, spelled, textOf, isTable, ruleCount}
 use Rattle.lists.specs.Lists.{placed-more}
 use Rattle.lyndon.specs.Ranks.{Bytes, rank-range, byte-of-rank}
-use Rattle.lyndon.specs.Reading.{accepted-stored}
-use Rattle.lyndon.specs.Shapes.{Shaped, Shape, one, two, shape, symbol-string, pair-string}
+use Rattle.lyndon.specs.Reading.{accepted-stored, accepted-spelled}
+use Rattle.lyndon.specs.Shapes.{Shaped, Shape, one, two, shape, symbol-string, pair-string, symbol-word, pair-word}
 use Rattle.spelling.specs.Spelling.{samples, symbolBytes, ruleBytes}
-use Rattle.lyndon.specs.Reading.{accepted-spelled}
+use Rattle.layout.specs.Layout.{KIND}
 
 -- ---- samples of strings
 
@@ -53,27 +53,27 @@ marked-samples o text h = ranks-samples o text h
 -- ---- rules
 
 -- rule r spells what u spells and then what v spells
-pub record Halves (t : List ℕ) (r u v : ℕ) : Type 0 where
+pub record PairOf (t : List ℕ) (r u v : ℕ) : Type 0 where
   pub left : u < r
   pub right : v < r
   pub bytes : ruleBytes t r ≡ ruleBytes t u ++ ruleBytes t v
 
-pub halves-size : (t : List ℕ) (r u v : ℕ) → Halves t r u v → length (ruleBytes t r) ≡ length (ruleBytes t u) + length (ruleBytes t v)
+pub halves-size : (t : List ℕ) (r u v : ℕ) → PairOf t r u v → length (ruleBytes t r) ≡ length (ruleBytes t u) + length (ruleBytes t v)
 halves-size t r u v h = ap length (h .bytes) ∙ length-append (ruleBytes t u) (ruleBytes t v)
 
 module _ (t : List ℕ) (s : Shaped t) where
-  symbol-in : (o : Order) (r : ℕ) → r < length t / 2 → kindOf (getD t (2 * r) 0) ≡ 0 → numberOf (getD t (2 * r) 0) < 257
+  symbol-in : (o : Order) (r : ℕ) → r < ruleCount t → kindOf (getD t (2 * r) 0) ≡ 0 → numberOf (getD t (2 * r) 0) < 257
       → samples o (ruleString o t r) ≡ symbolBytes (numberOf (getD t (2 * r) 0))
   symbol-in o r h k n = ap (samples o) (symbol-string o t r h k) ∙ symbol-samples o (numberOf (getD t (2 * r) 0)) n
 
-  pair-in : (o : Order) (r : ℕ) → r < length t / 2 → kindOf (getD t (2 * r) 0) ≡ 1 → numberOf (getD t (2 * r) 0) < r → numberOf (getD t (2 * r + 1) 0) < r
+  pair-in : (o : Order) (r : ℕ) → r < ruleCount t → kindOf (getD t (2 * r) 0) ≡ 1 → numberOf (getD t (2 * r) 0) < r → numberOf (getD t (2 * r + 1) 0) < r
       → samples o (ruleString o t r) ≡ samples o (ruleString o t (numberOf (getD t (2 * r) 0))) ++ samples o (ruleString o t (numberOf (getD t (2 * r + 1) 0)))
   pair-in o r h k u v =
       ap (samples o) (pair-string o t r h k u v)
       ∙ samples-append o (ruleString o t (numberOf (getD t (2 * r) 0))) (ruleString o t (numberOf (getD t (2 * r + 1) 0)))
 
   -- the bytes of a rule are the same in each order
-  below-samples : (o : Order) (b r : ℕ) → r < b → r < length t / 2 → samples o (ruleString o t r) ≡ ruleBytes t r
+  below-samples : (o : Order) (b r : ℕ) → r < b → r < ruleCount t → samples o (ruleString o t r) ≡ ruleBytes t r
   unfolding ruleBytes
   below-samples o zero r l h = absurd (omega arith)
   below-samples o (suc b) r l h = go (shape t r s h) (λ q m. below-samples o b q (omega arith) (omega arith))
@@ -85,36 +85,29 @@ module _ (t : List ℕ) (s : Shaped t) where
           ∙ ap₂ {C = List ℕ} (λ a b. a ++ b) (ih (numberOf (getD t (2 * r) 0)) n) (ih (numberOf (getD t (2 * r + 1) 0)) y)
           ∙ sym (pair-in Unsigned r h k n y)
 
-  pub rule-samples : (o : Order) (r : ℕ) → r < length t / 2 → samples o (ruleString o t r) ≡ ruleBytes t r
+  pub rule-samples : (o : Order) (r : ℕ) → r < ruleCount t → samples o (ruleString o t r) ≡ ruleBytes t r
   rule-samples o r h = below-samples o (suc r) r (omega arith) h
 
-  module _ (r : ℕ) (h : r < length t / 2) where
+  module _ (r : ℕ) (h : r < ruleCount t) where
     -- a rule whose first word is a symbol's
-    pub spelled-symbol : getD t (2 * r) 0 < 1073741824 → (getD t (2 * r) 0 < 257) × (ruleBytes t r ≡ symbolBytes (getD t (2 * r) 0))
-    unfolding numberOf kindOf ruleBytes
-    spelled-symbol l = go (shape t r s h)
-      where
-        same : getD t (2 * r) 0 % 1073741824 ≡ getD t (2 * r) 0
-        same = omega arith
-
-        go : Shape t r → (getD t (2 * r) 0 < 257) × (samples Unsigned (ruleString Unsigned t r) ≡ symbolBytes (getD t (2 * r) 0))
-        go (one k n x y) = (omega arith, symbol-in Unsigned r h k n ∙ ap symbolBytes same)
-        go (two k n x y) = absurd (omega arith)
+    pub spelled-symbol : getD t (2 * r) 0 < KIND → (getD t (2 * r) 0 < 257) × (ruleBytes t r ≡ symbolBytes (getD t (2 * r) 0))
+    unfolding ruleBytes
+    spelled-symbol l =
+        let (n, e) = symbol-word t r s h l in
+        (n, ap (samples Unsigned) (e Unsigned) ∙ symbol-samples Unsigned (getD t (2 * r) 0) n)
 
     -- and one whose first word is a left half's
-    pub spelled-pair : 1073741824 ≤ getD t (2 * r) 0 → Halves t r (getD t (2 * r) 0 % 1073741824) (getD t (2 * r + 1) 0 % 1073741824)
-    unfolding numberOf kindOf ruleBytes
-    spelled-pair l = go (shape t r s h)
-      where
-        go : Shape t r → Halves t r (getD t (2 * r) 0 % 1073741824) (getD t (2 * r + 1) 0 % 1073741824)
-        go (one k n x y) = absurd (omega arith)
-        go (two k n x y) = record { left = n; right = y; bytes = pair-in Unsigned r h k n y }
+    pub spelled-pair : KIND ≤ getD t (2 * r) 0 → PairOf t r (getD t (2 * r) 0 % KIND) (getD t (2 * r + 1) 0 % KIND)
+    unfolding numberOf ruleBytes
+    spelled-pair l =
+        let (k, u, v) = pair-word t r s h l in
+        record { left = u; right = v; bytes = pair-in Unsigned r h k u v }
 
 -- the root of an accepted table
-pub root-bytes : (o : Order) (t : List ℕ) → Shaped t → isTable o t ≡ true → ruleBytes t (length t / 2 - 1) ≡ textOf o t
+pub root-bytes : (o : Order) (t : List ℕ) → Shaped t → isTable o t ≡ true → ruleBytes t (ruleCount t - 1) ≡ textOf o t
 unfolding spelled
 root-bytes o t s e =
-    sym (rule-samples t s o (length t / 2 - 1) (omega (arith, s .even, s .filled)))
+    sym (rule-samples t s o (ruleCount t - 1) (omega (arith, s .even, s .filled)))
     ∙ ap (samples o) (accepted-spelled o t e)
     ∙ marked-samples o (textOf o t) (accepted-stored o t e .bytes)
 

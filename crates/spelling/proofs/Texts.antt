@@ -1,18 +1,19 @@
 -- What is loaded: the length of the text (`loaded-length`), the table whose root spells it (`loaded-root`), and its parts (`loaded-piece`).
-use mathlib.Core.Path.{_≡_, refl, sym, _∙_, ap, ap₂, subst}
-use mathlib.Core.List.{List, [], _∷_, map, append-nil}
-use Prim.Native.Nat.{ℕ, zero, suc, _+_, _-_, _*_, _/_, _≤_, _<_}
+use mathlib.Core.Path.{_≡_, refl, sym, _∙_, ap, subst}
+use mathlib.Core.List.{List, [], map, append-nil}
+use Prim.Native.Nat.{ℕ, suc, _+_, _-_, _*_, _≤_, _<_}
 use native.Mathlib.Omega.{arith}
 use lib.ListN.{length, take, drop, getD, length-take, length-drop, length-map}
 use lib.Seq.{getD-take, getD-drop}
 use Rattle.definitions.specs.declared.Order.{Order}
-use Rattle.definitions.specs.Table.{rankOf, byteOf, marked, tableOf}
-use Rattle.lists.specs.Members.{at-in, in-map, drop-map}
-use Rattle.lists.specs.Parts.{part, part-at, part-part}
+use Rattle.definitions.specs.Table.{rankOf, byteOf, marked, tableOf, ruleCount}
+use Rattle.lists.specs.Members.{at-in, in-map, take-map, drop-map}
+use Rattle.lists.specs.Parts.{part, part-taken, part-at, part-part}
 use Rattle.lyndon.specs.Forest.{longest, longests, longest-fits, longest-most}
 use Rattle.lyndon.specs.Ranks.{Bytes, rank-range, bytes-back, slice-bytes, marked-length, marked-lyndon}
-use Rattle.lyndon.specs.Reading.{table-length, table-size, table-accepted, table-text}
+use Rattle.lyndon.specs.Reading.{table-length, rule-range, table-accepted, table-text}
 use Rattle.lyndon.specs.Shapes.{Shaped, stored-shaped}
+use Rattle.layout.specs.Layout.{LONGEST, TABLE}
 use Rattle.grammar.specs.Loaded.{Ready}
 use Rattle.spelling.specs.Spelling.{Ranks, ruleBytes}
 use Rattle.spelling.proofs.Spelling.{root-bytes}
@@ -33,9 +34,9 @@ first-longests : (o : Order) (text : List ℕ) → getD (longests (marked o text
 unfolding longests marked
 first-longests o text = refl
 
-pub loaded-length : (w : List ℕ) (h : Ready w) → getD w 2048 0 ≡ suc (length (h .text))
+pub loaded-length : (w : List ℕ) (h : Ready w) → getD w LONGEST 0 ≡ suc (length (h .text))
 loaded-length w h =
-    sym (part-at 2048 (suc (length (h .text))) w 0 0 (omega arith))
+    sym (part-at LONGEST (suc (length (h .text))) w 0 0 (omega arith))
     ∙ ap (λ (l : List ℕ). getD l 0 0) (h .loaded .first)
     ∙ first-longests (h .order) (h .text)
     ∙ whole-longest (h .order) (h .text) (h .stored .bytes)
@@ -47,33 +48,30 @@ pub record Root (rules text : List ℕ) (n : ℕ) : Type 0 where
   pub shaped : Shaped rules
   pub some : 0 < n
   pub most : n ≤ 2304
-  pub low : n - 1 < length rules / 2
+  pub low : n - 1 < ruleCount rules
   pub bytes : ruleBytes rules (n - 1) ≡ text
 
-part-taken : (o n : ℕ) (w : List ℕ) → take n (drop o w) ≡ part o n w
-unfolding part
-part-taken o n w = refl
-
-pub loaded-root : (w : List ℕ) (h : Ready w) (n : ℕ) → n ≡ length (tableOf (h .order) (h .text) (h .chair)) / 2
-    → Root (take (11520 + 2 * n - 11520) (drop 11520 w)) (h .text) n
+pub loaded-root : (w : List ℕ) (h : Ready w) (n : ℕ) → n ≡ ruleCount (tableOf (h .order) (h .text) (h .chair))
+    → Root (take (TABLE + 2 * n - TABLE) (drop TABLE w)) (h .text) n
 loaded-root w h n e = subst (λ (l : List ℕ). Root l (h .text) n) (sym words) whole
   where
     t : List ℕ
     t = tableOf (h .order) (h .text) (h .chair)
 
-    words : take (11520 + 2 * n - 11520) (drop 11520 w) ≡ tableOf (h .order) (h .text) (h .chair)
+    words : take (TABLE + 2 * n - TABLE) (drop TABLE w) ≡ tableOf (h .order) (h .text) (h .chair)
     words =
-        let size : 11520 + 2 * n - 11520 ≡ length (tableOf (h .order) (h .text) (h .chair)) = omega (arith, table-length (h .order) (h .text) (h .chair) (h .stored)) in
-        ap (λ (k : ℕ). take k (drop 11520 w)) size ∙ part-taken 11520 (length (tableOf (h .order) (h .text) (h .chair))) w ∙ h .loaded .table
+        let size : TABLE + 2 * n - TABLE ≡ length (tableOf (h .order) (h .text) (h .chair)) = omega (arith, table-length (h .order) (h .text) (h .chair) (h .stored)) in
+        part-taken TABLE (TABLE + 2 * n - TABLE) (length t) w size ∙ h .loaded .table
 
     whole : Root (tableOf (h .order) (h .text) (h .chair)) (h .text) n
     whole =
         let s = stored-shaped (h .order) (h .text) (h .chair) (h .stored) in
+        let (some, most) = rule-range (h .order) (h .text) (h .chair) (h .stored) in
         record {
           shaped = s;
-          some = omega (arith, s .even, s .filled);
-          most = omega (arith, table-size (h .order) (h .text) (h .chair) (h .stored));
-          low = omega (arith, s .even, s .filled);
+          some = omega arith;
+          most = omega arith;
+          low = omega arith;
           bytes =
               ap (λ (k : ℕ). ruleBytes t (k - 1)) e
               ∙ root-bytes (h .order) t s (table-accepted (h .order) (h .text) (h .chair) (h .stored))
@@ -94,11 +92,6 @@ ranks-piece o piece h =
       bytes = bytes-back o piece h;
     }
 
-take-map : (f : ℕ → ℕ) (n : ℕ) (l : List ℕ) → take n (map f l) ≡ map f (take n l)
-take-map f zero l = refl
-take-map f (suc n) [] = refl
-take-map f (suc n) (a ∷ l) = ap {B = List ℕ} (λ m. f a ∷ m) (take-map f n l)
-
 marked-piece : (o : Order) (text : List ℕ) (start count : ℕ) → part (suc start) count (marked o text) ≡ map (rankOf o) (take count (drop start text))
 unfolding part marked
 marked-piece o text start count = ap (take count) (drop-map (rankOf o) start text) ∙ take-map (rankOf o) count (drop start text)
@@ -117,8 +110,8 @@ loaded-piece w h start count k =
     let many : 1 + start + count - (1 + start) ≡ count = omega arith in
     let next : 1 + start ≡ 0 + suc start = omega arith in
     let ranks : take (1 + start + count - (1 + start)) (drop (1 + start) w) ≡ map (rankOf (h .order)) piece =
-    ap₂ {C = List ℕ} (λ a b. take a (drop b w)) many next
-    ∙ part-taken (0 + suc start) count w
+    part-taken (1 + start) (1 + start + count - (1 + start)) count w many
+    ∙ ap (λ (o : ℕ). part o count w) next
     ∙ sym (part-part 0 (suc (length (h .text))) (suc start) count w (omega arith))
     ∙ ap (part (suc start) count) (h .loaded .ranks)
     ∙ marked-piece (h .order) (h .text) start count in

@@ -1,16 +1,17 @@
 // Spelling the text that is loaded: whole, by recursion over the rules, or a part of it from its ranks.
 use definitions::Order;
-use ends::layout::FIRST;
-use ends::layout::KIND_1;
-use ends::layout::TABLE;
+use layout::KIND;
+use layout::LONGEST;
+use layout::TABLE;
+use ranks::byte_of;
 use slices::wide;
 ghost use mathlib.Core.Path.{_≡_};
 ghost use mathlib.Core.List.{map};
-ghost use Prim.Native.Nat.{_+_, _/_, _≤_, _<_};
+ghost use Prim.Native.Nat.{_+_, _≤_, _<_};
 ghost use lib.ListN.{length, take, drop};
 ghost use Rattle.definitions.specs.Words.{placed};
-ghost use Rattle.definitions.specs.Table.{byteOf, tableOf};
-ghost use Rattle.grammar.specs.Loaded.{Ready};
+ghost use Rattle.definitions.specs.Table.{byteOf, ruleCount};
+ghost use Rattle.grammar.specs.Loaded.{Ready, rulesLoaded};
 ghost use Rattle.lyndon.specs.Shapes.{Shaped};
 ghost use Rattle.spelling.specs.Spelling.{Ranks, symbolBytes, ruleBytes};
 
@@ -19,13 +20,13 @@ pub fn text_length(work: &[u32]) -> usize
     requires { ⌜ Ready (now work) ⌝ }
     ensures { λ n. ⌜ ((h : Ready (now (work .entry))) → n ≡ length (h .text)) ⌝ }
 {
-    wide(work[FIRST]) - 1
+    wide(work[LONGEST]) - 1
 }
 
 // Spells the text that is loaded, whose table has so many rules, at the front of a slice.
 pub fn spell_text(rules: usize, work: &[u32], result: &mut [u8])
-    requires { ⌜ ((h : Ready (now work)) × (rules ≡ length (tableOf (h .order) (h .text) (h .chair)) / 2) × (length (h .text) ≤ length (now result))) ⌝ }
-    ensures { λ _. ⌜ ((h : Ready (now (work .entry))) → rules ≡ length (tableOf (h .order) (h .text) (h .chair)) / 2 → now (result .exit) ≡ placed (h .text) (now (result .entry))) ⌝ }
+    requires { ⌜ ((h : Ready (now work)) × (rules ≡ rulesLoaded h) × (length (h .text) ≤ length (now result))) ⌝ }
+    ensures { λ _. ⌜ ((h : Ready (now (work .entry))) → rules ≡ rulesLoaded h → now (result .exit) ≡ placed (h .text) (now (result .entry))) ⌝ }
 {
     let end = TABLE + 2 * rules;
     spell(&work[TABLE..end], rules - 1, result);
@@ -33,17 +34,17 @@ pub fn spell_text(rules: usize, work: &[u32], result: &mut [u8])
 
 // Spells rule r at the front of a slice: its left half, and in the rest of the slice its right half. Answers how many samples there are.
 fn spell(rules: &[u32], r: usize, result: &mut [u8]) -> usize
-    requires { ⌜ Shaped (now rules) × (r < length (now rules) / 2) × (length (ruleBytes (now rules) r) ≤ length (now result)) ⌝ }
+    requires { ⌜ Shaped (now rules) × (r < ruleCount (now rules)) × (length (ruleBytes (now rules) r) ≤ length (now result)) ⌝ }
     ensures { λ n. ⌜ n ≡ length (ruleBytes (now (rules .entry)) r) ⌝ }
     ensures { λ _. ⌜ now (result .exit) ≡ placed (ruleBytes (now (rules .entry)) r) (now (result .entry)) ⌝ }
 {
     let x = rules[2 * r];
     let y = rules[2 * r + 1];
-    if x < KIND_1 {
+    if x < KIND {
         return spell_symbol(x, result);
     }
-    let n = spell(rules, wide(x % KIND_1), result);
-    let m = spell(rules, wide(y % KIND_1), &mut result[n..]);
+    let n = spell(rules, wide(x % KIND), result);
+    let m = spell(rules, wide(y % KIND), &mut result[n..]);
     n + m
 }
 
@@ -79,15 +80,5 @@ fn write_samples(order: Order, ranks: &[u32], result: &mut [u8])
     while i < ranks.len() {
         result[i] = byte_of(order, ranks[i]);
         i += 1;
-    }
-}
-
-// The byte of a sample's rank.
-fn byte_of(order: Order, rank: u32) -> u8
-    requires { ⌜ (0 < rank) × (rank < 257) ⌝ }
-    ensures { λ r. ⌜ r ≡ byteOf order rank ⌝ }
-{
-    match order {
-        Order::Unsigned => (rank - 1) as u8,
     }
 }

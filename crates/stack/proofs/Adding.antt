@@ -14,6 +14,7 @@ use Rattle.lists.specs.Newest.{newest, hasWords}
 use Rattle.lists.specs.Parts.{part, part-length, part-at, part-set, part-set-before, part-set-behind, part-append, part-cons, part-none}
 use Rattle.lyndon.specs.Rules.{find}
 use Rattle.lyndon.specs.Encoding.{firstWord, secondWord, Encodes, AllEncode, words-cons, find-encoded}
+use Rattle.layout.specs.Layout.{LINKS, TABLE}
 use Rattle.dict.specs.Dictionary.{bucketOf, Dict}
 use Rattle.dict.specs.Links.{bucket-small, linked, dict-more}
 use Rattle.stack.specs.Areas.{Rules, added}
@@ -35,12 +36,12 @@ encode-append K x h e r l = split-lt r (length K)
 -- ---- the words of rules K at the front of the table area
 
 pub looked-up : (o : Order) (K : List Rule) (w : List ℕ) (x : Rule) → Rules o K w → Encodes x → length K ≤ 2304
-    → newest (hasWords (part 11520 4608 w) (firstWord o x) (secondWord 0 x)) (length K) ≡ find x K
+    → newest (hasWords (part TABLE 4608 w) (firstWord o x) (secondWord 0 x)) (length K) ≡ find x K
 looked-up o K w x r e h =
-    find-encoded o (part 11520 4608 w) x K e (r .encodes)
+    find-encoded o (part TABLE 4608 w) x K e (r .encodes)
     (λ i l.
-    part-at 11520 4608 w i 0 (omega arith)
-    ∙ sym (part-at 11520 (2 * length K) w i 0 l)
+    part-at TABLE 4608 w i 0 (omega arith)
+    ∙ sym (part-at TABLE (2 * length K) w i 0 l)
     ∙ ap (λ (t : List ℕ). getD t i 0) (r .table))
 
 module _ (o : Order) (K : List Rule) (w : List ℕ) (x : Rule) (r : Rules o K w) (e : Encodes x) (h : length K < 2304) where
@@ -58,49 +59,49 @@ module _ (o : Order) (K : List Rule) (w : List ℕ) (x : Rule) (r : Rules o K w)
 
   -- the words are stored, then linked
   abbrev v : List ℕ
-  v = set (set w (11520 + 2 * n) a) (11520 + 2 * n + 1) b
+  v = set (set w (TABLE + 2 * n) a) (TABLE + 2 * n + 1) b
 
   abbrev u : List ℕ
-  u = set (set v (8192 + 1024 + n) (getD v (8192 + z) 0)) (8192 + z) (n + 1)
+  u = set (set v (LINKS + 1024 + n) (getD v (LINKS + z) 0)) (LINKS + z) (n + 1)
 
   small : z < 1024
   small = bucket-small a b
 
   size : length v ≡ length w
-  size = length-set (set w (11520 + 2 * n) a) (11520 + 2 * n + 1) b ∙ length-set w (11520 + 2 * n) a
+  size = length-set (set w (TABLE + 2 * n) a) (TABLE + 2 * n + 1) b ∙ length-set w (TABLE + 2 * n) a
 
   -- the links lie before the table
-  linked-table : (m k : ℕ) → part (11520 + m) k u ≡ part (11520 + m) k v
+  linked-table : (m k : ℕ) → part (TABLE + m) k u ≡ part (TABLE + m) k v
   linked-table m k =
-      part-set-before (11520 + m) k (set v (8192 + 1024 + n) (getD v (8192 + z) 0)) (8192 + z) (n + 1) (omega (arith, small))
-      ∙ part-set-before (11520 + m) k v (8192 + 1024 + n) (getD v (8192 + z) 0) (omega arith)
+      part-set-before (TABLE + m) k (set v (LINKS + 1024 + n) (getD v (LINKS + z) 0)) (LINKS + z) (n + 1) (omega (arith, small))
+      ∙ part-set-before (TABLE + m) k v (LINKS + 1024 + n) (getD v (LINKS + z) 0) (omega arith)
 
-  first-word : getD v (11520 + 2 * n) 0 ≡ a
+  first-word : getD v (TABLE + 2 * n) 0 ≡ a
   first-word =
-      getD-set-other (set w (11520 + 2 * n) a) (11520 + 2 * n + 1) (11520 + 2 * n) b 0 (λ q. omega arith)
-      ∙ getD-set-same w (11520 + 2 * n) a 0 (omega (arith, r .long))
+      getD-set-other (set w (TABLE + 2 * n) a) (TABLE + 2 * n + 1) (TABLE + 2 * n) b 0 (λ q. omega arith)
+      ∙ getD-set-same w (TABLE + 2 * n) a 0 (omega (arith, r .long))
 
-  second-word : getD v (11520 + 2 * n + 1) 0 ≡ b
-  second-word = getD-set-same (set w (11520 + 2 * n) a) (11520 + 2 * n + 1) b 0 (simp length-set (omega (arith, r .long)))
+  second-word : getD v (TABLE + 2 * n + 1) 0 ≡ b
+  second-word = getD-set-same (set w (TABLE + 2 * n) a) (TABLE + 2 * n + 1) b 0 (simp length-set (omega (arith, r .long)))
 
   -- ---- the table
 
-  old-words : (m k : ℕ) → m + k ≤ 2 * n → part (11520 + m) k v ≡ part (11520 + m) k w
+  old-words : (m k : ℕ) → m + k ≤ 2 * n → part (TABLE + m) k v ≡ part (TABLE + m) k w
   old-words m k l =
-      part-set-behind (11520 + m) k (set w (11520 + 2 * n) a) (11520 + 2 * n + 1) b (omega arith)
-      ∙ part-set-behind (11520 + m) k w (11520 + 2 * n) a (omega arith)
+      part-set-behind (TABLE + m) k (set w (TABLE + 2 * n) a) (TABLE + 2 * n + 1) b (omega arith)
+      ∙ part-set-behind (TABLE + m) k w (TABLE + 2 * n) a (omega arith)
 
-  new-words : part (11520 + 2 * n) 2 v ≡ a ∷ b ∷ []
+  new-words : part (TABLE + 2 * n) 2 v ≡ a ∷ b ∷ []
   new-words =
-      part-cons (11520 + 2 * n) 1 v 0 (omega (arith, size, r .long))
+      part-cons (TABLE + 2 * n) 1 v 0 (omega (arith, size, r .long))
       ∙ ap₂ {C = List ℕ} (λ p q. p ∷ q) first-word
-      (part-cons (suc (11520 + 2 * n)) 0 v 0 (omega (arith, size, r .long))
-      ∙ ap₂ {C = List ℕ} (λ p q. p ∷ q) (ap (λ (k : ℕ). getD v k 0) (sym (add-one (11520 + 2 * n))) ∙ second-word) (part-none (suc (suc (11520 + 2 * n))) v))
+      (part-cons (suc (TABLE + 2 * n)) 0 v 0 (omega (arith, size, r .long))
+      ∙ ap₂ {C = List ℕ} (λ p q. p ∷ q) (ap (λ (k : ℕ). getD v k 0) (sym (add-one (TABLE + 2 * n))) ∙ second-word) (part-none (suc (suc (TABLE + 2 * n))) v))
 
-  table : part 11520 (2 * length (K ++ (x ∷ []))) u ≡ words o 0 (K ++ (x ∷ []))
+  table : part TABLE (2 * length (K ++ (x ∷ []))) u ≡ words o 0 (K ++ (x ∷ []))
   table =
-      ap (λ (k : ℕ). part 11520 k u) more
-      ∙ part-append 11520 (2 * n) 2 u
+      ap (λ (k : ℕ). part TABLE k u) more
+      ∙ part-append TABLE (2 * n) 2 u
       ∙ ap₂ {C = List ℕ} (λ p q. p ++ q)
       (linked-table 0 (2 * n) ∙ old-words 0 (2 * n) (omega arith) ∙ r .table)
       (linked-table (2 * n) 2 ∙ new-words)
@@ -111,32 +112,32 @@ module _ (o : Order) (K : List Rule) (w : List ℕ) (x : Rule) (r : Rules o K w)
 
   -- ---- the links
 
-  old-links : part 8192 3328 v ≡ part 8192 3328 w
+  old-links : part LINKS 3328 v ≡ part LINKS 3328 w
   old-links =
-      part-set-behind 8192 3328 (set w (11520 + 2 * n) a) (11520 + 2 * n + 1) b (omega arith)
-      ∙ part-set-behind 8192 3328 w (11520 + 2 * n) a (omega arith)
+      part-set-behind LINKS 3328 (set w (TABLE + 2 * n) a) (TABLE + 2 * n + 1) b (omega arith)
+      ∙ part-set-behind LINKS 3328 w (TABLE + 2 * n) a (omega arith)
 
-  new-links : part 8192 3328 u ≡ linked (part 8192 3328 w) n a b
+  new-links : part LINKS 3328 u ≡ linked (part LINKS 3328 w) n a b
   unfolding linked
   new-links =
-      part-set 8192 3328 (set v (8192 + 1024 + n) (getD v (8192 + z) 0)) z (n + 1) (omega (arith, small))
+      part-set LINKS 3328 (set v (LINKS + 1024 + n) (getD v (LINKS + z) 0)) z (n + 1) (omega (arith, small))
       ∙ ap (λ (l : List ℕ). set l z (n + 1))
-      (ap (λ (k : ℕ). part 8192 3328 (set v k (getD v (8192 + z) 0))) place
-      ∙ part-set 8192 3328 v (1024 + n) (getD v (8192 + z) 0) (omega arith)
-      ∙ ap₂ {C = List ℕ} (λ l y. set l (1024 + n) y) old-links (sym (part-at 8192 3328 v z 0 (omega (arith, small))) ∙ ap (λ (l : List ℕ). getD l z 0) old-links))
+      (ap (λ (k : ℕ). part LINKS 3328 (set v k (getD v (LINKS + z) 0))) place
+      ∙ part-set LINKS 3328 v (1024 + n) (getD v (LINKS + z) 0) (omega arith)
+      ∙ ap₂ {C = List ℕ} (λ l y. set l (1024 + n) y) old-links (sym (part-at LINKS 3328 v z 0 (omega (arith, small))) ∙ ap (λ (l : List ℕ). getD l z 0) old-links))
     where
-      place : 8192 + 1024 + n ≡ 8192 + (1024 + n)
+      place : LINKS + 1024 + n ≡ LINKS + (1024 + n)
       place = omega arith
 
-  table-part : part 11520 4608 u ≡ part 11520 4608 v
+  table-part : part TABLE 4608 u ≡ part TABLE 4608 v
   table-part = linked-table 0 4608
 
-  dict : Dict (part 11520 4608 u) (part 8192 3328 u) (length (K ++ (x ∷ [])))
+  dict : Dict (part TABLE 4608 u) (part LINKS 3328 u) (length (K ++ (x ∷ [])))
   dict =
-      subst (Dict (part 11520 4608 u) (part 8192 3328 u)) (sym more)
-      (subst (λ (l : List ℕ). Dict (part 11520 4608 u) l (suc n)) (sym new-links)
-      (dict-more (part 11520 4608 w) (part 11520 4608 u) (part 8192 3328 w) n a b (r .dict)
-      (omega (arith, part-length 8192 3328 w (omega (arith, r .long))))
+      subst (Dict (part TABLE 4608 u) (part LINKS 3328 u)) (sym more)
+      (subst (λ (l : List ℕ). Dict (part TABLE 4608 u) l (suc n)) (sym new-links)
+      (dict-more (part TABLE 4608 w) (part TABLE 4608 u) (part LINKS 3328 w) n a b (r .dict)
+      (omega (arith, part-length LINKS 3328 w (omega (arith, r .long))))
       (λ k l. word-at k l ∙ old-word k l)
       (word-at-new (2 * n) (omega arith) ∙ first-word)
       (word-at-new (2 * n + 1) (omega arith) ∙ ap (λ (k : ℕ). getD v k 0) (omega arith) ∙ second-word)))
@@ -144,17 +145,17 @@ module _ (o : Order) (K : List Rule) (w : List ℕ) (x : Rule) (r : Rules o K w)
       more : length (K ++ (x ∷ [])) ≡ suc n
       more = omega (arith, length-append K (x ∷ []))
 
-      word-at-new : (k : ℕ) → k < 4608 → getD (part 11520 4608 u) k 0 ≡ getD v (11520 + k) 0
-      word-at-new k l = ap (λ (t : List ℕ). getD t k 0) table-part ∙ part-at 11520 4608 v k 0 l
+      word-at-new : (k : ℕ) → k < 4608 → getD (part TABLE 4608 u) k 0 ≡ getD v (TABLE + k) 0
+      word-at-new k l = ap (λ (t : List ℕ). getD t k 0) table-part ∙ part-at TABLE 4608 v k 0 l
 
-      word-at : (k : ℕ) → k < 2 * n → getD (part 11520 4608 u) k 0 ≡ getD v (11520 + k) 0
+      word-at : (k : ℕ) → k < 2 * n → getD (part TABLE 4608 u) k 0 ≡ getD v (TABLE + k) 0
       word-at k l = word-at-new k (omega arith)
 
-      old-word : (k : ℕ) → k < 2 * n → getD v (11520 + k) 0 ≡ getD (part 11520 4608 w) k 0
+      old-word : (k : ℕ) → k < 2 * n → getD v (TABLE + k) 0 ≡ getD (part TABLE 4608 w) k 0
       old-word k l =
-          getD-set-other (set w (11520 + 2 * n) a) (11520 + 2 * n + 1) (11520 + k) b 0 (λ q. omega arith)
-          ∙ getD-set-other w (11520 + 2 * n) (11520 + k) a 0 (λ q. omega arith)
-          ∙ sym (part-at 11520 4608 w k 0 (omega arith))
+          getD-set-other (set w (TABLE + 2 * n) a) (TABLE + 2 * n + 1) (TABLE + k) b 0 (λ q. omega arith)
+          ∙ getD-set-other w (TABLE + 2 * n) (TABLE + k) a 0 (λ q. omega arith)
+          ∙ sym (part-at TABLE 4608 w k 0 (omega arith))
 
   pub rules-added : Rules o (K ++ (x ∷ [])) (added w n a b)
   unfolding added
@@ -169,21 +170,21 @@ module _ (o : Order) (K : List Rule) (w : List ℕ) (x : Rule) (r : Rules o K w)
 -- ---- stores that the rules do not see
 
 -- a store before the links
-pub rules-put : (o : Order) (K : List Rule) (w : List ℕ) (i y : ℕ) → i < 8192 → Rules o K w → Rules o K (set w i y)
+pub rules-put : (o : Order) (K : List Rule) (w : List ℕ) (i y : ℕ) → i < LINKS → Rules o K w → Rules o K (set w i y)
 rules-put o K w i y h r =
     record {
       long = simp length-set (r .long);
-      table = part-set-before 11520 (2 * length K) w i y (omega arith) ∙ r .table;
-      dict = rw (part-set-before 11520 4608 w i y (omega arith), part-set-before 8192 3328 w i y (omega arith)) (r .dict);
+      table = part-set-before TABLE (2 * length K) w i y (omega arith) ∙ r .table;
+      dict = rw (part-set-before TABLE 4608 w i y (omega arith), part-set-before LINKS 3328 w i y (omega arith)) (r .dict);
       encodes = r .encodes;
     }
 
 -- an added rule lies behind the stack
-pub added-below : (w : List ℕ) (n x y m : ℕ) → m ≤ 8192 → take m (added w n x y) ≡ take m w
+pub added-below : (w : List ℕ) (n x y m : ℕ) → m ≤ LINKS → take m (added w n x y) ≡ take m w
 unfolding added
 added-below w n x y m h =
-    let v = set (set w (11520 + 2 * n) x) (11520 + 2 * n + 1) y in
-    take-set-le m (set v (8192 + 1024 + n) (getD v (8192 + bucketOf x y) 0)) (8192 + bucketOf x y) (n + 1) (omega arith)
-    ∙ take-set-le m v (8192 + 1024 + n) (getD v (8192 + bucketOf x y) 0) (omega arith)
-    ∙ take-set-le m (set w (11520 + 2 * n) x) (11520 + 2 * n + 1) y (omega arith)
-    ∙ take-set-le m w (11520 + 2 * n) x (omega arith)
+    let v = set (set w (TABLE + 2 * n) x) (TABLE + 2 * n + 1) y in
+    take-set-le m (set v (LINKS + 1024 + n) (getD v (LINKS + bucketOf x y) 0)) (LINKS + bucketOf x y) (n + 1) (omega arith)
+    ∙ take-set-le m v (LINKS + 1024 + n) (getD v (LINKS + bucketOf x y) 0) (omega arith)
+    ∙ take-set-le m (set w (TABLE + 2 * n) x) (TABLE + 2 * n + 1) y (omega arith)
+    ∙ take-set-le m w (TABLE + 2 * n) x (omega arith)

@@ -14,7 +14,8 @@ use Rattle.lists.specs.Parts.{part}
 use Rattle.lyndon.specs.Rules.{find, intern, intern-old, intern-new}
 use Rattle.lyndon.specs.Encoding.{firstWord, secondWord}
 use Rattle.lyndon.specs.Closings.{State, push, joins}
-use Rattle.stack.specs.Areas.{added, Holds, Pushes, Joins, Below}
+use Rattle.layout.specs.Layout.{STACK, TABLE, KIND, RIGHT_HALF}
+use Rattle.stack.specs.Areas.{added, Holds, Pushable, Joinable, Below}
 use Rattle.stack.proofs.Adding.{looked-up, added-below}
 use Rattle.stack.proofs.Stacks.{pushed-old, pushed-new, topped, join-once, joins-less, joins-room}
 
@@ -24,22 +25,22 @@ intern-longer K x = split-le (length K) (find x K)
     (λ h. omega (arith, ap length (intern-new K x h), length-append K (x ∷ [])))
     (λ h. omega (arith, ap length (intern-old K x h)))
 
-pub pushes-most : (w : List ℕ) (n d x y : ℕ) → Pushes w n d x y → n ≤ 2304
+pub pushes-most : (w : List ℕ) (n d x y : ℕ) → Pushable w n d x y → n ≤ 2304
 pushes-most w n d x y p = omega (arith, p .holds .count, intern-longer (p .s .rules) (p .rule), p .room)
 
-module _ (w : List ℕ) (n d x y r : ℕ) (p : Pushes w n d x y) (e : r ≡ newest (hasWords (part 11520 4608 w) x y) n) where
+module _ (w : List ℕ) (n d x y r : ℕ) (p : Pushable w n d x y) (e : r ≡ newest (hasWords (part TABLE 4608 w) x y) n) where
   at : r ≡ find (p .rule) (p .s .rules)
   at =
       e
       ∙ words
-      ∙ ap (newest (hasWords (part 11520 4608 w) (firstWord (p .o) (p .rule)) (secondWord 0 (p .rule)))) (p .holds .count)
+      ∙ ap (newest (hasWords (part TABLE 4608 w) (firstWord (p .o) (p .rule)) (secondWord 0 (p .rule)))) (p .holds .count)
       ∙ looked-up (p .o) (p .s .rules) w (p .rule) (p .holds .rules) (p .encodes) (omega (arith, pushes-most w n d x y p, p .holds .count))
     where
-      words : newest (hasWords (part 11520 4608 w) x y) n ≡ newest (hasWords (part 11520 4608 w) (firstWord (p .o) (p .rule)) (secondWord 0 (p .rule))) n
+      words : newest (hasWords (part TABLE 4608 w) x y) n ≡ newest (hasWords (part TABLE 4608 w) (firstWord (p .o) (p .rule)) (secondWord 0 (p .rule))) n
       words = rw (p .first, p .second)
 
   most : r ≤ n
-  most = omega (arith, e, newest-le (hasWords (part 11520 4608 w) x y) n)
+  most = omega (arith, e, newest-le (hasWords (part TABLE 4608 w) x y) n)
 
   -- a rule that is not found has room
   pub pushes-room : n ≤ r → n < 2304
@@ -52,15 +53,15 @@ module _ (w : List ℕ) (n d x y r : ℕ) (p : Pushes w n d x y) (e : r ≡ newe
         length-append (p .s .rules) (p .rule ∷ []),
       )
 
-  pub push-found : (v : List ℕ) → r < n → v ≡ set w (6144 + d) r → Holds (p .o) (push (p .s .rules) (p .rule) (p .s .stack)) v n (d + 1)
+  pub push-found : (v : List ℕ) → r < n → v ≡ set w (STACK + d) r → Holds (p .o) (push (p .s .rules) (p .rule) (p .s .stack)) v n (d + 1)
   push-found v h q =
-      subst (λ (l : List ℕ). Holds (p .o) (push (p .s .rules) (p .rule) (p .s .stack)) l n (d + 1)) (sym (q ∙ ap (set w (6144 + d)) at))
+      subst (λ (l : List ℕ). Holds (p .o) (push (p .s .rules) (p .rule) (p .s .stack)) l n (d + 1)) (sym (q ∙ ap (set w (STACK + d)) at))
       (pushed-old (p .o) (p .s) w n d (p .rule) (p .holds) (p .low) (omega (arith, at)))
 
-  pub push-added : (u v : List ℕ) → n ≤ r → u ≡ added w n x y → v ≡ set u (6144 + d) n
+  pub push-added : (u v : List ℕ) → n ≤ r → u ≡ added w n x y → v ≡ set u (STACK + d) n
       → Holds (p .o) (push (p .s .rules) (p .rule) (p .s .stack)) v (n + 1) (d + 1)
   push-added u v h f q =
-      subst (λ (l : List ℕ). Holds (p .o) (push (p .s .rules) (p .rule) (p .s .stack)) l (n + 1) (d + 1)) (sym (q ∙ ap (λ (l : List ℕ). set l (6144 + d) n) (f ∙ words)))
+      subst (λ (l : List ℕ). Holds (p .o) (push (p .s .rules) (p .rule) (p .s .stack)) l (n + 1) (d + 1)) (sym (q ∙ ap (λ (l : List ℕ). set l (STACK + d) n) (f ∙ words)))
       (pushed-new (p .o) (p .s) w n d (p .rule) (p .holds) (p .low) (omega (arith, at, most)) (pushes-room h) (p .encodes))
     where
       words : added w n x y ≡ added w n (firstWord (p .o) (p .rule)) (secondWord 0 (p .rule))
@@ -68,21 +69,21 @@ module _ (w : List ℕ) (n d x y r : ℕ) (p : Pushes w n d x y) (e : r ≡ newe
 
 -- ---- what stays below the stack
 
-pub found-below : (w v : List ℕ) (d r : ℕ) → v ≡ set w (6144 + d) r → Below w v
-found-below w v d r e = ap (take 6144) e ∙ take-set-le 6144 w (6144 + d) r (omega arith)
+pub found-below : (w v : List ℕ) (d r : ℕ) → v ≡ set w (STACK + d) r → Below w v
+found-below w v d r e = ap (take STACK) e ∙ take-set-le STACK w (STACK + d) r (omega arith)
 
-pub added-stays : (w u v : List ℕ) (n d x y : ℕ) → u ≡ added w n x y → v ≡ set u (6144 + d) n → Below w v
-added-stays w u v n d x y f e = found-below u v d n e ∙ ap (take 6144) f ∙ added-below w n x y 6144 (omega arith)
+pub added-stays : (w u v : List ℕ) (n d x y : ℕ) → u ≡ added w n x y → v ≡ set u (STACK + d) n → Below w v
+added-stays w u v n d x y f e = found-below u v d n e ∙ ap (take STACK) f ∙ added-below w n x y STACK (omega arith)
 
 -- ---- a join is a push
 
 -- so many rules have room
-pub joins-most : (w : List ℕ) (n d k : ℕ) → Joins w n d k → n ≤ 2304
+joins-most : (w : List ℕ) (n d k : ℕ) → Joinable w n d k → n ≤ 2304
 joins-most w n d k p = omega (arith, p .holds .count, joins-room k (p .s), p .room)
 
 -- the pair of the two rules on top can be pushed on what stands below them, and that is the join
-pub join-pushes : (w : List ℕ) (n d : ℕ) (p : Joins w n d 1)
-    → (q : Pushes w n (d - 2) (1073741824 + getD w (6144 + d - 2) 0) (2147483648 + getD w (6144 + d - 1) 0))
+pub join-pushes : (w : List ℕ) (n d : ℕ) (p : Joinable w n d 1)
+    → (q : Pushable w n (d - 2) (KIND + getD w (STACK + d - 2) 0) (RIGHT_HALF + getD w (STACK + d - 1) 0))
     × (q .o ≡ p .o) × (push (q .s .rules) (q .rule) (q .s .stack) ≡ joins 1 (p .s))
 unfolding firstWord secondWord wordOf push
 join-pushes w n d p =
@@ -105,7 +106,7 @@ join-pushes w n d p =
     )
 
 -- the numbers on top are small
-pub tops-small : (w : List ℕ) (n d : ℕ) → Joins w n d 1 → (getD w (6144 + d - 2) 0 < 2304) × (getD w (6144 + d - 1) 0 < 2304)
+pub tops-small : (w : List ℕ) (n d : ℕ) → Joinable w n d 1 → (getD w (STACK + d - 2) 0 < 2304) × (getD w (STACK + d - 1) 0 < 2304)
 tops-small w n d p =
     let t = topped (p .o) (p .s) w n d (p .holds) (omega (arith, p .enough)) in
     let most = joins-most w n d 1 p in
@@ -121,7 +122,7 @@ pub record Left (w : List ℕ) (n d k : ℕ) (o : Order) (all : State) : Type 0 
   pub enough : k < d
   pub rest : joins k s ≡ all
 
-unfoldable pub left-joins : (w : List ℕ) (n d k : ℕ) (o : Order) (all : State) → Left w n d k o all → 0 < k → length (all .rules) ≤ 2304 → Joins w n d 1
+unfoldable pub left-joins : (w : List ℕ) (n d k : ℕ) (o : Order) (all : State) → Left w n d k o all → 0 < k → length (all .rules) ≤ 2304 → Joinable w n d 1
 left-joins w n d k o all l h r =
     record {
       o = o;

@@ -1,11 +1,11 @@
 // The stack of rules in the work slice: pushing a rule, which is looked up by its two words and added if it is new, and joining the two
 // rules on top.
-use ends::layout::KIND_1;
-use ends::layout::KIND_2;
-use ends::layout::LINKS;
-use ends::layout::STACK;
-use ends::layout::TABLE;
-use ends::layout::TABLE_END;
+use layout::LEFT_HALF;
+use layout::LINKS;
+use layout::RIGHT_HALF;
+use layout::STACK;
+use layout::TABLE;
+use layout::TABLE_END;
 use slices::put;
 ghost use mathlib.Core.Path.{_≡_};
 ghost use Prim.Native.Nat.{_≤_, _<_};
@@ -13,8 +13,9 @@ ghost use lib.ListN.{length};
 ghost use Rattle.lists.specs.Newest.{newest, hasWords};
 ghost use Rattle.lists.specs.Parts.{part};
 ghost use Rattle.lyndon.specs.Closings.{push, joins};
+ghost use Rattle.layout.specs.Layout.{LINKS, TABLE, WORK};
 ghost use Rattle.dict.specs.Dictionary.{Dict};
-ghost use Rattle.stack.specs.Areas.{Holds, Pushes, Joins, Below, added};
+ghost use Rattle.stack.specs.Areas.{Holds, Pushable, Joinable, Below, added};
 
 // How many rules there are, and how many stand on the stack.
 pub struct Counts {
@@ -24,8 +25,8 @@ pub struct Counts {
 
 // Joins the two rules on top, k times.
 pub fn join_all(work: &mut [u32], c: Counts, k: u32) -> Counts
-    requires { ⌜ Joins (now work) (c .rules) (c .depth) k ⌝ }
-    ensures { λ r. ⌜ ((p : Joins (now (work .entry)) (c .rules) (c .depth) k) → Holds (p .o) (joins k (p .s)) (now (work .exit)) (r .rules) (r .depth)) × Below (now (work .entry)) (now (work .exit)) ⌝ }
+    requires { ⌜ Joinable (now work) (c .rules) (c .depth) k ⌝ }
+    ensures { λ r. ⌜ ((p : Joinable (now (work .entry)) (c .rules) (c .depth) k) → Holds (p .o) (joins k (p .s)) (now (work .exit)) (r .rules) (r .depth)) × Below (now (work .entry)) (now (work .exit)) ⌝ }
 {
     let mut t = c;
     let mut left = k;
@@ -38,8 +39,8 @@ pub fn join_all(work: &mut [u32], c: Counts, k: u32) -> Counts
 
 // Joins the two rules on top.
 fn join_top(work: &mut [u32], c: Counts) -> Counts
-    requires { ⌜ Joins (now work) (c .rules) (c .depth) 1 ⌝ }
-    ensures { λ r. ⌜ ((p : Joins (now (work .entry)) (c .rules) (c .depth) 1) → Holds (p .o) (joins 1 (p .s)) (now (work .exit)) (r .rules) (r .depth)) × Below (now (work .entry)) (now (work .exit)) ⌝ }
+    requires { ⌜ Joinable (now work) (c .rules) (c .depth) 1 ⌝ }
+    ensures { λ r. ⌜ ((p : Joinable (now (work .entry)) (c .rules) (c .depth) 1) → Holds (p .o) (joins 1 (p .s)) (now (work .exit)) (r .rules) (r .depth)) × Below (now (work .entry)) (now (work .exit)) ⌝ }
 {
     let d = c.depth;
     let n = c.rules;
@@ -49,13 +50,13 @@ fn join_top(work: &mut [u32], c: Counts) -> Counts
         rules: n,
         depth: d - 2,
     };
-    push_rule(work, below, KIND_1 + i, KIND_2 + j)
+    push_rule(work, below, LEFT_HALF + i, RIGHT_HALF + j)
 }
 
 // Pushes the rule with the words x and y, which is added if it is new.
 pub fn push_rule(work: &mut [u32], c: Counts, x: u32, y: u32) -> Counts
-    requires { ⌜ Pushes (now work) (c .rules) (c .depth) x y ⌝ }
-    ensures { λ r. ⌜ ((p : Pushes (now (work .entry)) (c .rules) (c .depth) x y) → Holds (p .o) (push (p .s .rules) (p .rule) (p .s .stack)) (now (work .exit)) (r .rules) (r .depth)) × Below (now (work .entry)) (now (work .exit)) ⌝ }
+    requires { ⌜ Pushable (now work) (c .rules) (c .depth) x y ⌝ }
+    ensures { λ r. ⌜ ((p : Pushable (now (work .entry)) (c .rules) (c .depth) x y) → Holds (p .o) (push (p .s .rules) (p .rule) (p .s .stack)) (now (work .exit)) (r .rules) (r .depth)) × Below (now (work .entry)) (now (work .exit)) ⌝ }
 {
     let n = c.rules;
     let d = c.depth;
@@ -77,15 +78,15 @@ pub fn push_rule(work: &mut [u32], c: Counts, x: u32, y: u32) -> Counts
 
 // The newest of the n rules with the words x and y, n if there is none.
 fn look_up(work: &[u32], n: usize, x: u32, y: u32) -> usize
-    requires { ⌜ Dict (part 11520 4608 (now work)) (part 8192 3328 (now work)) n × (n ≤ 2304) × (16384 ≤ length (now work)) ⌝ }
-    ensures { λ r. ⌜ r ≡ newest (hasWords (part 11520 4608 (now (work .entry))) x y) n ⌝ }
+    requires { ⌜ Dict (part TABLE 4608 (now work)) (part LINKS 3328 (now work)) n × (n ≤ 2304) × (WORK ≤ length (now work)) ⌝ }
+    ensures { λ r. ⌜ r ≡ newest (hasWords (part TABLE 4608 (now (work .entry))) x y) n ⌝ }
 {
     dict::find(&work[TABLE..TABLE_END], &work[LINKS..TABLE], n, x, y)
 }
 
 // Adds rule n with the words x and y.
 fn add(work: &mut [u32], n: usize, x: u32, y: u32)
-    requires { ⌜ (n < 2304) × (16384 ≤ length (now work)) ⌝ }
+    requires { ⌜ (n < 2304) × (WORK ≤ length (now work)) ⌝ }
     ensures { λ _. ⌜ now (work .exit) ≡ added (now (work .entry)) n x y ⌝ }
 {
     dict::store(work, TABLE, n, x, y);

@@ -3,7 +3,7 @@
 use mathlib.Core.Path.{_≡_, refl, sym, _∙_, ap, ap₂, subst}
 use mathlib.Core.Bool.{Bool, true, false}
 use mathlib.Core.List.{List, [], _∷_, map, List·Memᴰ as In, List·Memᴰ·head as here, List·Memᴰ·tail as there}
-use Prim.Native.Nat.{ℕ, zero, suc, _+_, _-_, _*_, _/_, _≤_, _<_}
+use Prim.Native.Nat.{ℕ, zero, suc, _+_, _-_, _*_, _≤_, _<_}
 use native.Mathlib.Omega.{arith}
 use native.Mathlib.Nat.{zero-add}
 use lib.ListN.{length, take, drop, getD}
@@ -11,12 +11,13 @@ use borrow.Author.Tests.{le-leb}
 use Rattle.definitions.specs.declared.Order.{Order}
 use Rattle.definitions.specs.Words.{same}
 use Rattle.definitions.specs.Grammar.{order}
-use Rattle.definitions.specs.Table.{rankOf, byteOf, marked, tableOf, spelled, textOf, chairOf, isChair, isTable}
+use Rattle.definitions.specs.Table.{rankOf, byteOf, marked, tableOf, spelled, textOf, chairOf, isChair, isTable, ruleCount}
 use Rattle.lists.specs.Members.{at-in, in-at, in-map}
 use Rattle.lists.specs.Parts.{part-length, part-at}
 use Rattle.lyndon.specs.Ranks.{Bytes, rank-of-byte, byte-range, rank-range, is-drive, marked-length}
 use Rattle.lyndon.specs.Reading.{Stored, accepted-stored, accepted-spelled}
 use Rattle.lyndon.specs.Shapes.{string-ranks, chair-small}
+use Rattle.layout.specs.Layout.{TABLE}
 use Rattle.grammar.specs.Loaded.{Marked, Loaded, loaded-words, rules-most}
 use Rattle.tables.specs.Loading.{Front, Rooted}
 
@@ -90,7 +91,7 @@ module _ (o : Order) (t w : List ℕ) (n : ℕ) (r : Rooted o t w n) where
         (string-ranks-root)
       where
         string-ranks-root : (a : ℕ) → In a (spelled o t) → a < 257
-        string-ranks-root = string-ranks o t (r .shaped) (length t / 2 - 1) (omega (arith, r .shaped .even, r .shaped .filled))
+        string-ranks-root = string-ranks o t (r .shaped) (ruleCount t - 1) (omega (arith, r .shaped .even, r .shaped .filled))
 
     pub text-size : suc (length (textOf o t)) ≡ n
     text-size = omega (arith, marked-length o (textOf o t), ap length (text-bytes .0), size)
@@ -114,7 +115,7 @@ module _ (o : Order) (t w : List ℕ) (n : ℕ) (r : Rooted o t w n) where
     pub record Remade (v : List ℕ) (k : ℕ) : Type 0 where
       pub most : k ≤ 2304
       pub loaded : Loaded o (textOf o t) (chairOf t) v
-      pub decides : (b : Bool) → b ≡ same (take (11520 + 2 * k - 11520) (drop 11520 v)) t → b ≡ isTable o t
+      pub decides : (b : Bool) → b ≡ same (take (TABLE + 2 * k - TABLE) (drop TABLE v)) t → b ≡ isTable o t
 
     pub remade : (v : List ℕ) (k c : ℕ) → c ≡ chairOf t
         → ((m : Marked o n c w) → Loaded o (m .text) c v × (k ≡ length (order (marked o (m .text))))) → Remade v k

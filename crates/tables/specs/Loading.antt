@@ -8,6 +8,7 @@ use Rattle.definitions.specs.declared.Order.{Order}
 use Rattle.definitions.specs.Table.{spelled}
 use Rattle.lists.specs.Parts.{part}
 use Rattle.lyndon.specs.Shapes.{Shaped}
+use Rattle.layout.specs.Layout.{WORK}
 
 -- of n symbols the first alone is the mark
 pub record Front (w : List ℕ) (n : ℕ) : Type 0 where
@@ -17,7 +18,7 @@ pub record Front (w : List ℕ) (n : ℕ) : Type 0 where
 -- the root is expanded, and not too long
 pub record Rooted (o : Order) (t w : List ℕ) (n : ℕ) : Type 0 where
   pub shaped : Shaped t
-  pub long : 16384 ≤ length w
+  pub long : WORK ≤ length w
   pub filled : 0 < n
   pub most : n ≤ 2048
   pub whole : part 0 n w ≡ spelled o t

@@ -1,9 +1,9 @@
 // Tables that come from anywhere: loading one into the work slice if it is accepted. The root is expanded, and the table of what it spells is
 // made again and compared.
 use definitions::Order;
-use ends::layout::KIND_1;
-use ends::layout::TABLE;
 use expansion::expand;
+use layout::KIND;
+use layout::TABLE;
 ghost use mathlib.Core.Path.{_≡_};
 ghost use mathlib.Core.Bool.{true, false};
 ghost use Prim.Native.Nat.{_≤_, _<_};
@@ -11,11 +11,12 @@ ghost use lib.ListN.{length};
 ghost use Rattle.definitions.specs.Table.{textOf, chairOf, isTable};
 ghost use Rattle.grammar.specs.Loaded.{Loaded};
 ghost use Rattle.lyndon.specs.Shapes.{Shaped};
+ghost use Rattle.layout.specs.Layout.{WORK};
 ghost use Rattle.tables.specs.Loading.{Front, Rooted};
 
 // Loads a table: whether it is the table of a drive and chair number. If it is, the work slice holds what building leaves there.
 pub fn load(order: Order, table: &[u32], work: &mut [u32]) -> bool
-    requires { ⌜ Shaped (now table) × (length (now table) ≤ 4608) × (16384 ≤ length (now work)) ⌝ }
+    requires { ⌜ Shaped (now table) × (length (now table) ≤ 4608) × (WORK ≤ length (now work)) ⌝ }
     ensures { λ b. ⌜ (b ≡ isTable order (now (table .entry))) × (b ≡ true → Loaded order (textOf order (now (table .entry))) (chairOf (now (table .entry))) (now (work .exit))) ⌝ }
 {
     let n = expand(order, table, work);
@@ -57,5 +58,5 @@ pub fn chair_of(table: &[u32]) -> u16
     requires { ⌜ Shaped (now table) ⌝ }
     ensures { λ r. ⌜ r ≡ chairOf (now (table .entry)) ⌝ }
 {
-    (table[1] % KIND_1) as u16
+    (table[1] % KIND) as u16
 }

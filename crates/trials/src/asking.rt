@@ -1,101 +1,84 @@
 // Calls of the services as a line of the input says. Printed are the answer and entries of the slices afterwards.
 use crate::fields::first;
-use crate::fields::least;
 use crate::fields::number;
-use crate::fields::repeat;
-use crate::fields::start_of;
-use crate::printing;
+use crate::fields::samples;
 use crate::printing::answered;
+use crate::printing::found;
+use crate::printing::left;
+use crate::printing::part;
 use crate::printing::read_back;
-use crate::printing::words;
+use naive::least;
 
-// Cuts the slices to the lengths that the line has.
+// Asks a service that has a work slice. Each slice has the length that the line has.
 pub fn asked(line: &[u8], table: &[u32]) {
     let mut work = [7u32; 16385];
-    let mut result = [7u32; 4608];
-    let mut samples = [b'.'; 2048];
     let w = least(number(line, 1), 16385);
-    let r = least(number(line, 2), 4608);
     let n = least(number(line, 3), 2048);
-    repeat(&line[start_of(line, 5)..], n, &mut samples);
-    ask(
-        first(line),
-        number(line, 4),
-        number(line, 5),
-        table,
-        &mut samples[0..n],
-        &mut work[0..w],
-        &mut result[0..r],
-    );
+    let s = samples(line, n);
+    ask(line, &s[0..n], table, &mut work[0..w]);
+    left(&work, w);
 }
 
-fn ask(
-    what: u8,
-    x: usize,
-    y: usize,
-    table: &[u32],
-    samples: &mut [u8],
-    work: &mut [u32],
-    result: &mut [u32],
-) {
-    match what {
-        b'b' => build(samples, x, work, result),
-        b'c' => check(table, work),
-        b'f' => locate(table, samples, work, result),
-        b'l' => live_cuts(samples, result),
-        b'n' => count(table, samples, work),
-        b'p' => extract(table, x, y, work, samples),
-        _ => read(table, work, samples),
+// The same with samples and a work slice.
+fn ask(line: &[u8], s: &[u8], table: &[u32], work: &mut [u32]) {
+    match first(line) {
+        b'b' => build(line, s, work),
+        b'c' => answered(index::check(table, work)),
+        b'f' => locate(line, table, s, work),
+        b'n' => count(table, s, work),
+        b'p' => extract(line, table, work),
+        _ => read(line, table, work),
     }
 }
 
-fn build(samples: &[u8], chair: usize, work: &mut [u32], result: &mut [u32]) {
-    answered(index::build(samples, (chair % 65536) as u16, work, result));
-    found(result);
-    left(work);
+// Builds a table, and prints the answer and the words.
+fn build(line: &[u8], text: &[u8], work: &mut [u32]) {
+    let mut result = [7u32; 4608];
+    let r = least(number(line, 2), 4608);
+    let chair = (number(line, 4) % 65536) as u16;
+    let a = index::build(text, chair, work, &mut result[0..r]);
+    found(a, &result, r);
 }
 
-fn check(table: &[u32], work: &mut [u32]) {
-    answered(index::check(table, work));
-    left(work);
+// Lists the finds of a motif, and prints the answer and the places.
+fn locate(line: &[u8], table: &[u32], pattern: &[u8], work: &mut [u32]) {
+    let mut result = [7u32; 4608];
+    let r = least(number(line, 2), 4608);
+    let s = index::locate(table, pattern, work, &mut result[0..r]);
+    let a = s.answer;
+    found(a, &result, r);
 }
 
-fn read(table: &[u32], work: &mut [u32], result: &mut [u8]) {
-    read_back(index::read(table, work, result));
-    printing::samples(result);
-    left(work);
-}
-
-fn extract(table: &[u32], start: usize, count: usize, work: &mut [u32], result: &mut [u8]) {
-    answered(index::extract(table, start, count, work, result));
-    printing::samples(result);
-    left(work);
-}
-
+// Counts the finds of a motif, and prints the answer.
 fn count(table: &[u32], pattern: &[u8], work: &mut [u32]) {
     let s = index::count(table, pattern, work);
     let a = s.answer;
     answered(a);
-    left(work);
 }
 
-fn locate(table: &[u32], pattern: &[u8], work: &mut [u32], result: &mut [u32]) {
-    let s = index::locate(table, pattern, work, result);
-    let a = s.answer;
-    answered(a);
-    found(result);
-    left(work);
+// Reads a part, and prints the answer and the samples.
+fn extract(line: &[u8], table: &[u32], work: &mut [u32]) {
+    let mut result = [b'.'; 2048];
+    let n = least(number(line, 3), 2048);
+    let start = number(line, 4);
+    let a = index::extract(table, start, number(line, 5), work, &mut result[0..n]);
+    part(a, &result, n);
 }
 
-fn live_cuts(pattern: &[u8], result: &mut [u32]) {
-    answered(index::live_cuts(pattern, result));
-    found(result);
+// Reads a table back, and prints the answer and the samples.
+fn read(line: &[u8], table: &[u32], work: &mut [u32]) {
+    let mut result = [b'.'; 2048];
+    let n = least(number(line, 3), 2048);
+    let a = index::read(table, work, &mut result[0..n]);
+    read_back(a, &result, n);
 }
 
-fn found(result: &[u32]) {
-    words(b" result", result, 16);
-}
-
-fn left(work: &[u32]) {
-    words(b" work", work, 1);
+// Asks for the live cuts of the line's samples.
+pub fn live_cuts(line: &[u8]) {
+    let mut result = [7u32; 4608];
+    let r = least(number(line, 2), 4608);
+    let n = least(number(line, 3), 2048);
+    let s = samples(line, n);
+    let a = index::live_cuts(&s[0..n], &mut result[0..r]);
+    found(a, &result, r);
 }

@@ -1,18 +1,15 @@
 // Runs the services on the papers' samples and edges, which stand in the file `stdin`, and on generated drives and motifs
 // against a naive scanner, and prints what they answer; the file `stdout` has what is expected.
 mod asking;
-mod campaign;
 mod fields;
-mod generating;
-mod lines;
 mod printing;
 mod rules;
-mod scanning;
+mod script;
 
 use libc::STDIN_FILENO;
 
 fn main() {
     let mut input = [0u8; 8192];
     let n = io::read_full(STDIN_FILENO, &mut input);
-    lines::run(&input[..n]);
+    script::run(&input[..n]);
 }

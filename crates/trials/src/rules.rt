@@ -1,79 +1,73 @@
 // The table that the lines of the input speak of: words as they stand in a line, and rules that continue it.
-use crate::fields::least;
+use crate::fields::first;
 use crate::fields::number;
-use crate::fields::start_of;
-use crate::printing;
+use crate::fields::words_of;
+use naive::least;
 
-// Writes the words of a line, and answers how many there are.
-pub fn words(line: &[u8], table: &mut [u32]) -> usize {
-    let mut k = 0;
-    let mut at = 1;
-    while k < table.len() {
-        if line.len() <= start_of(line, at) {
-            return k;
-        }
-        put(table, k, word(line, at));
-        k += 1;
-        at = std::num::wrapping_add_usize(at, 2);
+// Writes the words that a line makes into a table of k words, and answers how many it has then.
+pub fn make(line: &[u8], table: &mut [u32], k: usize) -> usize {
+    let end = least(end_of(line), table.len());
+    let mut i = begin_of(line, k);
+    while i < end {
+        table[i] = made(line, i);
+        i += 1;
     }
-    k
+    words_after(line, end, k)
 }
 
-// The word whose kind is field k, and its number the next.
-pub fn word(line: &[u8], k: usize) -> u32 {
-    word_of(
-        number(line, k),
-        number(line, std::num::wrapping_add_usize(k, 1)),
-    )
-}
-
-// Changes one word of a table of k words. Answers k.
-pub fn change(line: &[u8], table: &mut [u32], k: usize) -> usize {
-    put(table, number(line, 1), word(line, 2));
-    k
-}
-
-// Prints one word of a table of k words. Answers k.
-pub fn show(line: &[u8], table: &[u32], k: usize) -> usize {
-    let i = number(line, 1);
-    if i < table.len() {
-        printing::word(table[i]);
+// The place of the first word that a line makes in a table of k words.
+fn begin_of(line: &[u8], k: usize) -> usize {
+    match first(line) {
+        b'm' => k - k % 2,
+        b'w' => number(line, 1),
+        _ => 0,
     }
-    k
 }
 
-// Continues a table of k words up to as many rules as the line has, each of them the rule before it and the rule that the line has, or
-// the rule before it twice where that is the smaller number. Answers how many words there are.
-pub fn more(line: &[u8], table: &mut [u32], k: usize) -> usize {
-    let n = least(number(line, 1), table.len() / 2);
-    let right = number(line, 2);
-    let mut r = k / 2;
-    while r < n {
-        pair(table, r, right);
-        r += 1;
+// The place after the last word that a line makes. A table has at most 4610 words.
+fn end_of(line: &[u8]) -> usize {
+    match first(line) {
+        b'm' => 2 * least(number(line, 1), 2305),
+        b't' => words_of(line),
+        b'w' => 1 + least(number(line, 1), 4610),
+        _ => number(line, 1),
     }
-    2 * n
 }
 
-// Writes rule r.
-fn pair(table: &mut [u32], r: usize, right: usize) {
-    let i = std::num::wrapping_add_usize(r, r);
-    let left = std::num::wrapping_sub_usize(r, 1);
-    put(table, i, word_of(1, left));
-    put(
-        table,
-        std::num::wrapping_add_usize(i, 1),
-        word_of(2, least(left, right)),
-    );
+// How many words a table of k words has after a line that makes words up to a place.
+fn words_after(line: &[u8], end: usize, k: usize) -> usize {
+    if first(line) == b'w' {
+        return k;
+    }
+    end
 }
 
+// The word that a line makes at place i.
+fn made(line: &[u8], i: usize) -> u32 {
+    match first(line) {
+        b'm' => of_pair(i, number(line, 2)),
+        b't' => word(line, i),
+        b'w' => word_of(number(line, 2), number(line, 3)),
+        _ => 0,
+    }
+}
+
+// Word i of a table whose rules are each the rule before it and rule `right`, or the rule before it twice where that is the smaller number.
+fn of_pair(i: usize, right: usize) -> u32 {
+    let left = std::num::wrapping_sub_usize(i / 2, 1);
+    if i % 2 == 0 {
+        return word_of(1, left);
+    }
+    word_of(2, least(left, right))
+}
+
+// Word i that stands in a line.
+fn word(line: &[u8], i: usize) -> u32 {
+    let k = least(i, 4610);
+    word_of(number(line, 1 + 2 * k), number(line, 2 + 2 * k))
+}
+
+// The word of a kind and a number.
 fn word_of(kind: usize, n: usize) -> u32 {
     ((kind % 4) * 1073741824 + n % 1073741824) as u32
-}
-
-// Writes a word, if the slice has its place.
-pub fn put(table: &mut [u32], i: usize, x: u32) {
-    if i < table.len() {
-        table[i] = x;
-    }
 }

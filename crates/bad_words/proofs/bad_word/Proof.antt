@@ -1,14 +1,14 @@
 -- `bad_word` reads the rules in order. The invariant: the words passed are good.
 use mathlib.Core.Path.{_≡_, refl, sym, _∙_}
-use Prim.Native.Nat.{_≤_, _-_, _/_}
+use Prim.Native.Nat.{_≤_, _-_}
 use native.Mathlib.Omega.{arith}
-use lib.ListN.{length}
+use Rattle.definitions.specs.Table.{ruleCount}
 use Rattle.bad_words.proofs.Words.{Good, good-none, good-more, first-bad, second-bad, all-good}
 use Rattle.bad_words.proofs.bad_word.Statement.{statement}
 use Rattle.bad_words.proofs.bad_word.Tie as tie
 
 abbrev Inv-loop : tie.InvT-loop
-Inv-loop table n r₀ r = (r ≤ n) × (n ≡ length table / 2) × Good table r
+Inv-loop table n r₀ r = (r ≤ n) × (n ≡ ruleCount table) × Good table r
 
 abbrev μ-loop : tie.MeasureT-loop
 μ-loop table n r₀ r = n - r

@@ -1,8 +1,7 @@
 -- `deliver` copies where the result slice is long enough, and else refuses.
+use mathlib.Core.Path.{refl}
 use lib.ListN.{length}
-use borrow.Author.Tests.{ltb-false}
-use Rattle.definitions.specs.Services.{resultTooShort}
-use Rattle.checks.proofs.Answers.{refused-met, done-met}
+use Rattle.checks.proofs.Delivering.{text-answer, text-refused, text-fits, text-done}
 use borrow.Author.Needs.{needs}
 use Rattle.delivery.proofs.deliver.Statement.{statement}
 use Rattle.delivery.proofs.deliver.Tie as tie
@@ -20,15 +19,13 @@ returns : tie.Need-returns
 returns c =
     let f = c .before .before in
     let a = f .before .before .before .args in
-    let short = refused-met (resultTooShort (length (a .words .now)) (length (a .result .now))) (length (a .words .now)) _ _ (f .result-fits .result) (f .result-fits .ensures) (c .enum-told2 .given .1) in
-    (f .result-fits .ensures, rw short)
+    (text-answer (a .words .now) (a .result .now) (length (a .words .now)) refl (f .result-fits .result) (f .result-fits .ensures), text-refused (a .words .now) (a .result .now) (length (a .words .now)) refl (f .result-fits .result) (f .result-fits .ensures) _ _ (c .enum-told2 .given .1))
 
 copy-requires : tie.Need-copy-requires
 copy-requires c κs =
     let f = c .before .before .before in
     let a = f .before .before .before .args in
-    ltb-false (length (a .result .now)) (length (a .words .now))
-    (done-met (resultTooShort (length (a .words .now)) (length (a .result .now))) (length (a .words .now)) _ (f .result-fits .result) (f .result-fits .ensures) (c .before .enum-told .given .1))
+    text-fits (a .words .now) (a .result .now) (length (a .words .now)) refl (f .result-fits .result) (f .result-fits .ensures) _ (c .before .enum-told .given .1)
 
 same-length : tie.Need-same-length
 same-length c = search needs
@@ -38,8 +35,7 @@ returns-2 c =
     let p = c .before .before in
     let f = p .before .before .before .before in
     let a = f .before .before .before .args in
-    let fits = done-met (resultTooShort (length (a .words .now)) (length (a .result .now))) (length (a .words .now)) _ (f .result-fits .result) (f .result-fits .ensures) (p .before .before .enum-told .given .1) in
-    (f .result-fits .ensures, rw fits (p .copy .ensures))
+    (text-answer (a .words .now) (a .result .now) (length (a .words .now)) refl (f .result-fits .result) (f .result-fits .ensures), text-done (a .words .now) (a .result .now) (length (a .words .now)) refl (f .result-fits .result) (f .result-fits .ensures) _ _ (p .before .before .enum-told .given .1) (p .copy .ensures))
 
 pub deliver-spec : {M : Type 1} → statement M
 deliver-spec =

@@ -7,6 +7,7 @@ use borrow.Author.Needs.{needs}
 use native.Mathlib.Omega.{arith}
 use Rattle.lists.specs.Parts.{part, part-length}
 use Rattle.lyndon.specs.Forest.{longest}
+use Rattle.layout.specs.Layout.{CLOSINGS}
 use Rattle.ends.specs.Areas.{Ended, Merged}
 use Rattle.ends.proofs.Areas.{text-kept, opened, finished}
 use Rattle.ends.proofs.end_at.Statement.{statement}
@@ -27,7 +28,7 @@ merge-requires c κs =
       omega (arith, p .put .kept .0),
       omega arith,
       subst (λ (l : List ℕ). Ended (part 0 (a .n) l) (suc (a .i)) l) (sym (p .put .ensures)) e,
-      subst (λ (l : List ℕ). getD l (4096 + a .i) 0 ≡ 0) (sym (p .put .ensures)) z,
+      subst (λ (l : List ℕ). getD l (CLOSINGS + a .i) 0 ≡ 0) (sym (p .put .ensures)) z,
     )
 
 add-put-2 : tie.Need-add-put-2

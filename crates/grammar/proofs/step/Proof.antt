@@ -5,14 +5,14 @@ use Rattle.grammar.proofs.Stepping.{step-push, step-join, step-done}
 use Rattle.grammar.proofs.step.Statement.{statement}
 use Rattle.grammar.proofs.step.Tie as tie
 
-mul-number-of : tie.Need-mul-number-of
-mul-number-of c = search needs
+mul-number-of-rank : tie.Need-mul-number-of-rank
+mul-number-of-rank c = search needs
 
-slice-read-number-of : tie.Need-slice-read-number-of
-slice-read-number-of c = search needs
+slice-read-number-of-rank : tie.Need-slice-read-number-of-rank
+slice-read-number-of-rank c = search needs
 
-number-of-requires : tie.Need-number-of-requires
-number-of-requires c κs = search needs
+number-of-rank-requires : tie.Need-number-of-rank-requires
+number-of-rank-requires c κs = search needs
 
 add-k : tie.Need-add-k
 add-k c = search needs
@@ -28,7 +28,7 @@ push-rule-requires c κs =
     let x = c .before .before in
     let s = x .before .before .before in
     let a = s .args in
-    step-push (a .order) (a .work .now) (a .c .rules) (a .c .depth) (a .i) (s .pre) (x .number-of .result) (x .number-of .ensures)
+    step-push (a .order) (a .work .now) (a .c .rules) (a .c .depth) (a .i) (s .pre) (x .number-of-rank .result) (x .number-of-rank .ensures)
 
 join-all-requires : tie.Need-join-all-requires
 join-all-requires c κs =
@@ -36,7 +36,7 @@ join-all-requires c κs =
     let x = f .before .before .before in
     let s = x .before .before .before in
     let a = s .args in
-    step-join (a .order) (a .work .now) (a .c .rules) (a .c .depth) (a .i) (s .pre) (x .number-of .result) (x .number-of .ensures)
+    step-join (a .order) (a .work .now) (a .c .rules) (a .c .depth) (a .i) (s .pre) (x .number-of-rank .result) (x .number-of-rank .ensures)
     (f .push-rule .last .0) (f .push-rule .result .rules) (f .push-rule .result .depth) (f .push-rule .ensures .0)
 
 same-length : tie.Need-same-length
@@ -49,7 +49,7 @@ returns c =
     let x = f .before .before .before in
     let s = x .before .before .before in
     let a = s .args in (
-      λ p. step-done (a .order) (a .work .now) (a .c .rules) (a .c .depth) (a .i) p (x .number-of .result) (x .number-of .ensures)
+      λ p. step-done (a .order) (a .work .now) (a .c .rules) (a .c .depth) (a .i) p (x .number-of-rank .result) (x .number-of-rank .ensures)
           (f .push-rule .last .0) (g .join-all .last .0) (f .push-rule .result .rules) (g .join-all .result .rules)
           (f .push-rule .result .depth) (g .join-all .result .depth) (f .push-rule .ensures .0) (g .join-all .ensures .0),
       g .join-all .ensures .1 ∙ f .push-rule .ensures .1,
@@ -59,9 +59,9 @@ pub step-spec : {M : Type 1} → statement M
 step-spec =
     tie.close
     (tie.spec
-    mul-number-of
-    slice-read-number-of
-    number-of-requires
+    mul-number-of-rank
+    slice-read-number-of-rank
+    number-of-rank-requires
     add-k
     mul-k
     slice-read-k

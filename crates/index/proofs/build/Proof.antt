@@ -5,10 +5,11 @@ use lib.ListN.{length}
 use borrow.Author.Tests.{ltb-false}
 use Rattle.definitions.specs.declared.Order.the-variants.{Unsigned}
 use Rattle.definitions.specs.Table.{tableOf}
-use Rattle.definitions.specs.Services.{firstMet, outcomeOf, textTooLong, workTooShort, resultTooShort, buildService}
+use Rattle.definitions.specs.Services.{outcomeOf, textTooLong, workTooShort, resultTooShort, buildService}
+use Rattle.lists.specs.Decisions.{met, later, none, more}
+use Rattle.layout.specs.Layout.{WORK}
 use Rattle.checks.proofs.Answers.{refused-met, done-met}
-use Rattle.checks.proofs.Decisions.{met, later, none, more}
-use Rattle.checks.proofs.Serving.{refused-first, refused-front, decided}
+use Rattle.checks.proofs.Serving.{refused-first, refused-front, decided, answered-one}
 use borrow.Author.Needs.{needs}
 use Rattle.index.proofs.build.Statement.{statement}
 use Rattle.index.proofs.build.Tie as tie
@@ -64,7 +65,7 @@ build-checked-requires c κs =
     let a = f .before .before .before .before .args in
     let fits = done-met (textTooLong (a .text .now)) (length (a .text .now)) _ (f .text-fits .result) (f .text-fits .ensures) (w .before .enum-told .given .1) in
     let room = done-met (workTooShort (length (a .work .now))) (length (a .work .now)) _ (w .work-fits .result) (w .work-fits .ensures) (t .enum-told3 .given .1) in
-    (ltb-false 2047 (length (a .text .now)) fits, ltb-false (length (a .work .now)) 16384 room)
+    (ltb-false 2047 (length (a .text .now)) fits, ltb-false (length (a .work .now)) WORK room)
 
 same-length : tie.Need-same-length
 same-length c = search needs
@@ -73,7 +74,7 @@ same-length-2 : tie.Need-same-length-2
 same-length-2 c = search needs
 
 returns-3 : tie.Need-returns-3
-unfolding buildService outcomeOf firstMet
+unfolding buildService outcomeOf
 returns-3 c =
     let b = c .before .before .before .before in
     let t = b .before .before .before in
@@ -83,10 +84,11 @@ returns-3 c =
     let long = textTooLong (a .text .now) in
     let short = workTooShort (length (a .work .now)) in
     let table = tableOf Unsigned (a .text .now) (a .chair) in
+    let needed = resultTooShort (length table) (length (a .result .now)) in
     let fits = done-met long (length (a .text .now)) _ (f .text-fits .result) (f .text-fits .ensures) (w .before .enum-told .given .1) in
     let room = done-met short (length (a .work .now)) _ (w .work-fits .result) (w .work-fits .ensures) (t .enum-told3 .given .1) in
-    decided (buildService Unsigned (a .text .now) (a .chair) (length (a .work .now)) (length (a .result .now))) (long ∷ short ∷ []) (resultTooShort (length table) (length (a .result .now)) ∷ []) refl outcomeOf (λ x y. refl) (a .work .now) (a .result .now) (more long fits (more short room none)) (refl, refl)
-    (b .build-checked .result) (length table) (b .build-checked .last .1 .1 .1 .1 .0) (b .build-checked .last .1 .1 .1 .0) refl (b .build-checked .ensures .0) (b .build-checked .ensures .1 .0) (b .build-checked .ensures .1 .1)
+    decided (buildService Unsigned (a .text .now) (a .chair) (length (a .work .now)) (length (a .result .now))) (long ∷ short ∷ []) (needed ∷ []) refl outcomeOf (λ x y. refl) (a .work .now) (a .result .now) (more long fits (more short room none)) (refl, refl)
+    (b .build-checked .result) (length table) (b .build-checked .last .1 .1 .1 .1 .0) (b .build-checked .last .1 .1 .1 .0) refl (answered-one needed (length table) (b .build-checked .result) (b .build-checked .ensures .0)) (b .build-checked .ensures .1 .0) (b .build-checked .ensures .1 .1)
 
 pub build-spec : {M : Type 1} → statement M
 build-spec =

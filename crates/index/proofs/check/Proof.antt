@@ -1,10 +1,11 @@
 -- `check` ends in one of two ways: refused by the table's shape, or decided by what it spells.
 use mathlib.Core.Path.{refl, sym, _∙_, ap}
 use mathlib.Core.List.{[], _∷_}
-use Prim.Native.Nat.{ℕ, _/_}
+use Prim.Native.Nat.{ℕ}
 use lib.ListN.{length}
 use Rattle.definitions.specs.declared.Order.the-variants.{Unsigned}
 use Rattle.definitions.specs.Services.{outcomeOf, notATable, tableChecks, checkService}
+use Rattle.definitions.specs.Table.{ruleCount}
 use Rattle.checks.specs.Checks.{checked, delivered, shapeChecks}
 use Rattle.checks.proofs.Serving.{answered-one, refused-front, decided, done-all, done-value}
 use Rattle.shapes.proofs.Shaping.{shape-keeps, passed-shaped}
@@ -28,7 +29,7 @@ returns c =
     let a = h .before .before .before .args in
     let t = a .table .now in
     let n = length (a .work .now) in
-    let served = refused-front (checkService Unsigned t n) (shapeChecks t n) (notATable Unsigned t ∷ []) refl outcomeOf (λ x y. refl) (a .work .now) [] (shape-keeps t n) (h .shaped .result) (length t / 2) _ _ (h .shaped .ensures) (c .enum-told .given .1) in
+    let served = refused-front (checkService Unsigned t n) (shapeChecks t n) (notATable Unsigned t ∷ []) refl outcomeOf (λ x y. refl) (a .work .now) [] (shape-keeps t n) (h .shaped .result) (ruleCount t) _ _ (h .shaped .ensures) (c .enum-told .given .1) in
     (served .0, served .1 .1)
 
 check-shaped-requires : tie.Need-check-shaped-requires
@@ -38,7 +39,7 @@ check-shaped-requires c κs =
     let a = h .before .before .before .args in
     let t = a .table .now in
     let n = length (a .work .now) in
-    passed-shaped t n (done-all (shapeChecks t n) (length t / 2) _ (sym (h .shaped .ensures) ∙ told .a .given .1))
+    passed-shaped t n (done-all (shapeChecks t n) (ruleCount t) _ (sym (h .shaped .ensures) ∙ told .a .given .1))
 
 same-length : tie.Need-same-length
 same-length c = search needs
@@ -52,11 +53,11 @@ returns-2 c =
     let a = h .before .before .before .args in
     let t = a .table .now in
     let n = length (a .work .now) in
-    let passed = done-all (shapeChecks t n) (length t / 2) _ (sym (h .shaped .ensures) ∙ told .a .given .1) in
-    let rules = done-value (shapeChecks t n) (length t / 2) _ (sym (h .shaped .ensures) ∙ told .a .given .1) in
+    let passed = done-all (shapeChecks t n) (ruleCount t) _ (sym (h .shaped .ensures) ∙ told .a .given .1) in
+    let rules = done-value (shapeChecks t n) (ruleCount t) _ (sym (h .shaped .ensures) ∙ told .a .given .1) in
     let answer = k .check-shaped .ensures .0 ∙ ap (λ (x : ℕ). checked (notATable Unsigned t) x) rules in
-    let served = decided (checkService Unsigned t n) (shapeChecks t n) (notATable Unsigned t ∷ []) refl outcomeOf (λ x y. refl) (a .work .now) [] passed (refl, refl) (k .check-shaped .result) (length t / 2) (delivered (notATable Unsigned t ∷ []) [] []) (k .check-shaped .last .1 .1 .1 .0) refl
-    (answered-one (notATable Unsigned t) (length t / 2) (k .check-shaped .result) answer) refl (k .check-shaped .ensures .1) in
+    let served = decided (checkService Unsigned t n) (shapeChecks t n) (notATable Unsigned t ∷ []) refl outcomeOf (λ x y. refl) (a .work .now) [] passed (refl, refl) (k .check-shaped .result) (ruleCount t) (delivered (notATable Unsigned t ∷ []) [] []) (k .check-shaped .last .1 .1 .1 .0) refl
+    (answered-one (notATable Unsigned t) (ruleCount t) (k .check-shaped .result) answer) refl (k .check-shaped .ensures .1) in
     (served .0, served .1 .1)
 
 pub check-spec : {M : Type 1} → statement M

@@ -2,14 +2,14 @@
 -- are 2 r + 1 and 2 r.
 use mathlib.Core.Path.{_≡_, refl, sym, _∙_, ap}
 use native.Mathlib.Omega.{arith}
-use lib.ListN.{length, take, drop, getD, length-take, length-drop}
+use lib.ListN.{length, take, drop, length-take, length-drop}
 use borrow.Author.Needs.{needs}
-use Rattle.joins.specs.Areas.{leftIn}
 use Rattle.listing.proofs.Listing.{PairLists}
 use Rattle.listing.proofs.Lending.{lists-known, list-none, symbol-room, list-symbol, list-pair, list-left, list-rest, left-number, left-fits, list-both, rest-known, rest-low, rest-right, rest-both}
-use Prim.Native.Nat.{ℕ, _+_, _-_, _*_, _/_, _%_, _≤_, _<_, min}
+use Prim.Native.Nat.{ℕ, _+_, _-_, _*_, _≤_, _<_, min}
 use borrow.Fn.Kinds.{In}
 use borrow.Fn.PlainCycle.{Measures, is, falls, and}
+use Rattle.layout.specs.Layout.{lengthIn, countIn, joinCutIn, leftIn}
 use Rattle.listing.proofs.list_rest.Reads as list-rest
 use Rattle.listing.proofs.list_rest.Kinds as list-rest-kinds
 use Rattle.listing.proofs.+list_rest+list_rule.Lts-list_rest as list-rest-lts
@@ -62,7 +62,7 @@ list-rest-right-of-requires t c κs = rest-known (c .before .before .before .bef
 -- once the occurrence at the join is listed: how many that is, and that it fits
 cut-known : (t : ℕ) (c : list-rest-lts.After-list-cut (cut-of-reads.Asked, cut-of-reads.Learnt, list-cut-reads.Asked, list-cut-reads.Learnt, right-of-reads.Asked, right-of-reads.Learnt, list-rule-below t, list-rule.Post) (list-rest-at t) list-rest.Post)
     → let s = c .before .before .before .before .before in
-    (c .list-cut .result ≡ min 1 (getD (s .args .work .now) (6656 + s .args .r) 0 % 4096))
+    (c .list-cut .result ≡ min 1 (joinCutIn (s .args .work .now) (s .args .r)))
     × (c .list-cut .result ≤ length (s .args .result .now))
 cut-known t c =
     let e = c .before .cut-of .ensures in
@@ -101,7 +101,7 @@ list-rest-add-result t c =
     let v = g .before .before in
     let f = v .before .before .before in
     let s = f .before .before .before .before .before in
-    omega (arith, cut-known t f .0, s .pre .1 .room, g .list-rule .ensures .number ∙ ap (λ (j : ℕ). getD (s .args .work .now) (6656 + j) 0 / 4096) (v .right-of .ensures))
+    omega (arith, cut-known t f .0, s .pre .1 .room, g .list-rule .ensures .number ∙ ap (λ (j : ℕ). countIn (s .args .work .now) j) (v .right-of .ensures))
 
 list-rest-same-length : (t : ℕ) → list-rest-lts.Need-same-length (cut-of-reads.Asked, cut-of-reads.Learnt, list-cut-reads.Asked, list-cut-reads.Learnt, right-of-reads.Asked, right-of-reads.Learnt, list-rule-below t, list-rule.Post) (list-rest-at t) list-rest.Post
 list-rest-same-length t c = search needs
@@ -158,7 +158,7 @@ list-rule-list-rule-requires t c κs =
 -- once the left half is listed: how many it has, that they fit, and what is known of the pair
 left-known : (t : ℕ) (c : list-rule-lts.After-list-rule (number-of-reads.Asked, number-of-reads.Learnt, is-symbol-reads.Asked, is-symbol-reads.Learnt, list-one-reads.Asked, list-one-reads.Learnt, left-of-reads.Asked, left-of-reads.Learnt, list-rule-below t, list-rule.Post, length-of-reads.Asked, length-of-reads.Learnt, list-rest-below t, list-rest.Post) (list-rule-at t) list-rule.Post)
     → let s = c .before .before .before .before .before .before .before .before .before in
-    (c .list-rule .result ≡ getD (s .args .work .now) (6656 + leftIn (s .args .work .now) (s .args .r)) 0 / 4096)
+    (c .list-rule .result ≡ countIn (s .args .work .now) (leftIn (s .args .work .now) (s .args .r)))
     × (c .list-rule .result ≤ length (s .args .result .now))
     × PairLists (s .args .work .now) (s .args .r)
 left-known t c =
@@ -173,7 +173,7 @@ left-known t c =
 -- and where its join is
 join-known : (t : ℕ) (c : list-rule-lts.After-length-of (number-of-reads.Asked, number-of-reads.Learnt, is-symbol-reads.Asked, is-symbol-reads.Learnt, list-one-reads.Asked, list-one-reads.Learnt, left-of-reads.Asked, left-of-reads.Learnt, list-rule-below t, list-rule.Post, length-of-reads.Asked, length-of-reads.Learnt, list-rest-below t, list-rest.Post) (list-rule-at t) list-rule.Post)
     → let s = c .before .before .before .before .before .before .before .before .before .before .before .before in
-    (s .args .at + c .length-of .result ≡ s .args .at + getD (s .args .work .now) (2048 + leftIn (s .args .work .now) (s .args .r)) 0)
+    (s .args .at + c .length-of .result ≡ s .args .at + lengthIn (s .args .work .now) (leftIn (s .args .work .now) (s .args .r)))
     × (s .args .at + c .length-of .result ≤ 2048)
     × (c .before .before .before .list-rule .result ≤ length (s .args .result .now))
 join-known t c =
@@ -181,7 +181,7 @@ join-known t c =
     let v = f .before .before in
     let s = v .before .before .before .before .before .before .before in
     let (m, fits, q) = left-known t f in
-    let e : c .length-of .result ≡ getD (s .args .work .now) (2048 + leftIn (s .args .work .now) (s .args .r)) 0 = c .length-of .ensures ∙ ap (λ (j : ℕ). getD (s .args .work .now) (2048 + j) 0) (v .left-of .ensures) in
+    let e : c .length-of .result ≡ lengthIn (s .args .work .now) (leftIn (s .args .work .now) (s .args .r)) = c .length-of .ensures ∙ ap (λ (j : ℕ). lengthIn (s .args .work .now) j) (v .left-of .ensures) in
     (ap (λ (j : ℕ). s .args .at + j) e, omega (arith, q .size, s .pre .1 .inside), fits)
 
 list-rule-length-of-requires : (t : ℕ) → list-rule-lts.Need-length-of-requires (number-of-reads.Asked, number-of-reads.Learnt, is-symbol-reads.Asked, is-symbol-reads.Learnt, list-one-reads.Asked, list-one-reads.Learnt, left-of-reads.Asked, left-of-reads.Learnt, list-rule-below t, list-rule.Post, length-of-reads.Asked, length-of-reads.Learnt, list-rest-below t, list-rest.Post) (list-rule-at t) list-rule.Post

@@ -1,17 +1,19 @@
 -- `answer_built` prints the refusal of the motif, or the lines of success.
 use mathlib.Core.Path.{sym, _∙_, ap, ap₂, subst}
 use mathlib.Core.List.{List, _++_}
-use Prim.Native.Nat.{ℕ, _/_}
+use Prim.Native.Nat.{ℕ}
 use native.Mathlib.Omega.{arith}
 use lib.ListN.{length}
 use borrow.Author.Needs.{needs}
 use Rattle.definitions.specs.declared.Order.the-variants.{Unsigned}
 use Rattle.definitions.specs.Words.{placed}
 use Rattle.definitions.specs.Programs.{motifOf, driveOf, named, rulesName, foundLines}
+use Rattle.definitions.specs.Table.{ruleCount}
 use Rattle.lines.specs.Lines.{Small}
+use Rattle.lyndon.specs.Occurrences.{occurrences-most}
 use Rattle.lyndon.specs.Reading.{table-size}
 use Rattle.motif.proofs.Splitting.{drive-bytes}
-use Rattle.motif.proofs.Stepping.{stored, occurs-most, finds-small}
+use Rattle.motif.proofs.Stepping.{stored, finds-small}
 use Rattle.motif.proofs.Printing.{motif-refused, motif-done}
 use Rattle.motif.proofs.answer_built.Statement.{statement}
 use Rattle.motif.proofs.answer_built.Tie as tie
@@ -72,7 +74,7 @@ rules-and-found-requires c κs =
     let input = s .args .input .now in
     let bytes = drive-bytes input (λ i h. omega (arith, k .shared-slice-known .given i)) in
     let (fits, finds, output) = motif-done input (l .locate-motif .result) (l .locate-motif .ensures .0) (s .args .positions .now) (l .locate-motif .last .1 .1 .1 .0) _ (l .locate-motif .ensures .1) (a .a .given .1) in
-    let most = occurs-most (motifOf input) (driveOf input) in
+    let most = occurrences-most (motifOf input) (driveOf input) in
     let short = s .pre .0 .short in (
       omega (arith, ap length (s .pre .0 .table), table-size Unsigned (driveOf input) 0 (stored (driveOf input) (s .pre .0 .short) bytes)),
       subst Small (sym finds) (finds-small (motifOf input) (driveOf input) (s .pre .0 .short)),
@@ -96,7 +98,7 @@ returns-2 c =
     let l = a .before .before .before .before .before .before in
     let s = l .before .before .before .before .before .before .before .before in
     let (fits, finds, output) = motif-done (s .args .input .now) (l .locate-motif .result) (l .locate-motif .ensures .0) (s .args .positions .now) (l .locate-motif .last .1 .1 .1 .0) _ (l .locate-motif .ensures .1) (a .a .given .1) in
-    let e = ap₂ {C = List ℕ} (λ t p. named rulesName (length t / 2) ++ foundLines p) (s .pre .0 .table) finds ∙ output in
+    let e = ap₂ {C = List ℕ} (λ t p. named rulesName (ruleCount t) ++ foundLines p) (s .pre .0 .table) finds ∙ output in
     (f .rules-and-found .ensures .0 ∙ ap length e, f .rules-and-found .ensures .1 ∙ ap (λ (x : List ℕ). placed x (s .args .out .now)) e)
 
 pub answer-built-spec : {M : Type 1} → statement M

@@ -2,8 +2,9 @@
 use mathlib.Core.Path.{_∙_, ap}
 use mathlib.Core.List.{List}
 use Prim.Native.Nat.{ℕ, _+_}
-use lib.ListN.{getD, set}
+use lib.ListN.{set}
 use borrow.Author.Needs.{needs}
+use Rattle.layout.specs.Layout.{PLACES, lengthIn, placeIn}
 use Rattle.places.proofs.place_pair.Statement.{statement}
 use Rattle.places.proofs.place_pair.Tie as tie
 
@@ -49,7 +50,7 @@ returns c =
     let p = q .before .before .before .before in
     let a = p .before .before .before .before .before .args in
     let w = a .work .now in
-    q .put2 .ensures ∙ ap (λ (l : List ℕ). set l (4352 + a .right) (getD w (4352 + a .r) 0 + getD w (2048 + a .left) 0)) (p .put .ensures)
+    q .put2 .ensures ∙ ap (λ (l : List ℕ). set l (PLACES + a .right) (placeIn w (a .r) + lengthIn w (a .left))) (p .put .ensures)
 
 pub place-pair-spec : {M : Type 1} → statement M
 place-pair-spec =

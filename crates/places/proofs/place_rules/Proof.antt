@@ -1,7 +1,7 @@
 -- `place_rules` sizes all rules, places the root at the front of the marked text, which it spells, and then the halves of all rules.
 use native.Mathlib.Omega.{arith}
 use borrow.Author.Needs.{needs}
-use Rattle.places.proofs.Rules.{rules-most}
+use Rattle.lyndon.specs.Reading.{rule-range}
 use Rattle.places.proofs.Sizes.{source, size-start}
 use Rattle.places.proofs.Starts.{place-start, place-end}
 use Rattle.places.proofs.place_rules.Statement.{statement}
@@ -15,18 +15,18 @@ size-all-requires c κs =
 sub-put : tie.Need-sub-put
 sub-put c =
     let s = c .before .before .before .before .before .before in
-    omega (arith, rules-most (source (s .args .work .now) (s .pre .0)) (s .pre .0 .stored), s .pre .1)
+    omega (arith, rule-range (s .pre .0 .order) (s .pre .0 .text) (s .pre .0 .chair) (s .pre .0 .stored), s .pre .1)
 
 add-put : tie.Need-add-put
 add-put c =
     let s = c .before .before .before .before .before .before in
-    omega (arith, rules-most (source (s .args .work .now) (s .pre .0)) (s .pre .0 .stored), s .pre .1)
+    omega (arith, rule-range (s .pre .0 .order) (s .pre .0 .text) (s .pre .0 .chair) (s .pre .0 .stored), s .pre .1)
 
 put-requires : tie.Need-put-requires
 put-requires c κs =
     let z = c .before .before .before in
     let s = z .before .before .before in
-    omega (arith, rules-most (source (s .args .work .now) (s .pre .0)) (s .pre .0 .stored), s .pre .1, s .pre .0 .loaded .long, z .size-all .kept .0)
+    omega (arith, rule-range (s .pre .0 .order) (s .pre .0 .text) (s .pre .0 .chair) (s .pre .0 .stored), s .pre .1, s .pre .0 .loaded .long, z .size-all .kept .0)
 
 place-all-requires : tie.Need-place-all-requires
 place-all-requires c κs =

@@ -1,10 +1,9 @@
 -- `extract` ends in one of two ways: refused by the table's shape, or decided by what it spells, by the range and by the result slice.
 use mathlib.Core.Path.{refl, sym, _∙_}
-use Prim.Native.Nat.{_/_}
 use lib.ListN.{length, take, drop}
 use borrow.Author.Needs.{needs}
 use Rattle.definitions.specs.declared.Order.the-variants.{Unsigned}
-use Rattle.definitions.specs.Table.{textOf}
+use Rattle.definitions.specs.Table.{textOf, ruleCount}
 use Rattle.definitions.specs.Services.{outcomeOf, tableChecks, extractService}
 use Rattle.checks.specs.Checks.{shapeChecks, extractChecks}
 use Rattle.checks.proofs.Serving.{refused-front, decided, done-all}
@@ -29,7 +28,7 @@ returns c =
     let t = a .table .now in
     let n = length (a .work .now) in
     let m = length (a .result .now) in
-    refused-front (extractService Unsigned t (a .start) (a .count) n m) (shapeChecks t n) (extractChecks Unsigned t (a .start) (a .count) m) refl outcomeOf (λ x y. refl) (a .work .now) (a .result .now) (shape-keeps t n) (h .shaped .result) (length t / 2) _ _ (h .shaped .ensures) (c .enum-told2 .given .1)
+    refused-front (extractService Unsigned t (a .start) (a .count) n m) (shapeChecks t n) (extractChecks Unsigned t (a .start) (a .count) m) refl outcomeOf (λ x y. refl) (a .work .now) (a .result .now) (shape-keeps t n) (h .shaped .result) (ruleCount t) _ _ (h .shaped .ensures) (c .enum-told2 .given .1)
 
 extract-shaped-requires : tie.Need-extract-shaped-requires
 extract-shaped-requires c κs =
@@ -38,7 +37,7 @@ extract-shaped-requires c κs =
     let a = h .before .before .before .before .args in
     let t = a .table .now in
     let n = length (a .work .now) in
-    passed-shaped t n (done-all (shapeChecks t n) (length t / 2) _ (sym (h .shaped .ensures) ∙ told .enum-told .given .1))
+    passed-shaped t n (done-all (shapeChecks t n) (ruleCount t) _ (sym (h .shaped .ensures) ∙ told .enum-told .given .1))
 
 same-length : tie.Need-same-length
 same-length c = search needs
@@ -56,7 +55,7 @@ returns-2 c =
     let t = a .table .now in
     let n = length (a .work .now) in
     let m = length (a .result .now) in
-    let passed = done-all (shapeChecks t n) (length t / 2) _ (sym (h .shaped .ensures) ∙ told .enum-told .given .1) in
+    let passed = done-all (shapeChecks t n) (ruleCount t) _ (sym (h .shaped .ensures) ∙ told .enum-told .given .1) in
     decided (extractService Unsigned t (a .start) (a .count) n m) (shapeChecks t n) (extractChecks Unsigned t (a .start) (a .count) m) refl outcomeOf (λ x y. refl) (a .work .now) (a .result .now) passed (refl, (refl, (refl, refl))) (b .extract-shaped .result) (length (take (a .count) (drop (a .start) (textOf Unsigned t)))) (b .extract-shaped .last .1 .1 .1 .1 .1 .0) (b .extract-shaped .last .1 .1 .1 .1 .0) refl (b .extract-shaped .ensures .0) (b .extract-shaped .ensures .1 .0) (b .extract-shaped .ensures .1 .1)
 
 pub extract-spec : {M : Type 1} → statement M

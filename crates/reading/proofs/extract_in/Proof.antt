@@ -1,13 +1,12 @@
 -- `extract_in` loads the table, and delivers where it is accepted.
 use mathlib.Core.Path.{_∙_, refl}
-use Prim.Native.Nat.{_/_}
 use lib.ListN.{length, take, drop}
 use borrow.Author.Needs.{needs}
-use Rattle.definitions.specs.Table.{textOf}
+use Rattle.definitions.specs.Table.{textOf, ruleCount}
 use Rattle.definitions.specs.Services.{notATable}
+use Rattle.lists.specs.Decisions.{met}
 use Rattle.checks.specs.Checks.{extractChecks, partChecks}
 use Rattle.checks.proofs.Answers.{refused-met, done-met}
-use Rattle.checks.proofs.Decisions.{met}
 use Rattle.checks.proofs.Serving.{refused-first, answered-later, delivered-met, delivered-later}
 use Rattle.checks.proofs.Delivering.{accepts-check, ready, is-accepted}
 use Rattle.reading.proofs.extract_in.Statement.{statement}
@@ -37,9 +36,9 @@ returns c =
     let o = a .order in
     let t = a .table .now in
     let old = a .result .now in
-    let e = accepts-check o t (l .load .result) (length t / 2) (acc .accepts .result) (l .load .ensures .0) (acc .accepts .ensures) in
-    let q = refused-met (notATable o t) (length t / 2) _ _ (acc .accepts .result) e (c .enum-told2 .given .1) in (
-      refused-first (notATable o t) (length t / 2) (length (take (a .count) (drop (a .start) (textOf o t)))) (extractChecks o t (a .start) (a .count) (length old)) (acc .accepts .result) e q (met q),
+    let e = accepts-check o t (l .load .result) (ruleCount t) (acc .accepts .result) (l .load .ensures .0) (acc .accepts .ensures) in
+    let q = refused-met (notATable o t) (ruleCount t) _ _ (acc .accepts .result) e (c .enum-told2 .given .1) in (
+      refused-first (notATable o t) (ruleCount t) (length (take (a .count) (drop (a .start) (textOf o t)))) (extractChecks o t (a .start) (a .count) (length old)) (acc .accepts .result) e q (met q),
       delivered-met (notATable o t) (partChecks (textOf o t) (a .start) (a .count) (length old)) (take (a .count) (drop (a .start) (textOf o t))) old q,
     )
 
@@ -54,8 +53,8 @@ deliver-part-requires c κs =
     let o = a .order in
     let t = a .table .now in
     let old = a .result .now in
-    let e = accepts-check o t (l .load .result) (length t / 2) (acc .accepts .result) (l .load .ensures .0) (acc .accepts .ensures) in
-    let q = done-met (notATable o t) (length t / 2) _ (acc .accepts .result) e (told .enum-told .given .1) in
+    let e = accepts-check o t (l .load .result) (ruleCount t) (acc .accepts .result) (l .load .ensures .0) (acc .accepts .ensures) in
+    let q = done-met (notATable o t) (ruleCount t) _ (acc .accepts .result) e (told .enum-told .given .1) in
     let h = ready o t (l .load .last .1 .1 .0) q (l .load .ensures .1 (l .load .ensures .0 ∙ is-accepted o t (l .load .last .1 .1 .0) q)) in
     (h, refl)
 
@@ -77,8 +76,8 @@ returns-2 c =
     let o = a .order in
     let t = a .table .now in
     let old = a .result .now in
-    let e = accepts-check o t (l .load .result) (length t / 2) (acc .accepts .result) (l .load .ensures .0) (acc .accepts .ensures) in
-    let q = done-met (notATable o t) (length t / 2) _ (acc .accepts .result) e (told .enum-told .given .1) in
+    let e = accepts-check o t (l .load .result) (ruleCount t) (acc .accepts .result) (l .load .ensures .0) (acc .accepts .ensures) in
+    let q = done-met (notATable o t) (ruleCount t) _ (acc .accepts .result) e (told .enum-told .given .1) in
     let h = ready o t (l .load .last .1 .1 .0) q (l .load .ensures .1 (l .load .ensures .0 ∙ is-accepted o t (l .load .last .1 .1 .0) q)) in (
       answered-later (notATable o t) (partChecks (textOf o t) (a .start) (a .count) (length old)) (length (take (a .count) (drop (a .start) (textOf o t)))) (d .deliver-part .result) q (d .deliver-part .ensures .0 h),
       delivered-later (notATable o t) (partChecks (textOf o t) (a .start) (a .count) (length old)) (take (a .count) (drop (a .start) (textOf o t))) old (d .deliver-part .last .1 .1 .1 .1 .0) q (d .deliver-part .ensures .1 h refl),

@@ -1,10 +1,10 @@
 -- `read` ends in one of two ways: refused by the table's shape, or decided by what it spells and by the result slice.
 use mathlib.Core.Path.{refl, sym, _∙_, ap}
-use Prim.Native.Nat.{ℕ, _/_}
+use Prim.Native.Nat.{ℕ}
 use lib.ListN.{length}
 use borrow.Author.Needs.{needs}
 use Rattle.definitions.specs.declared.Order.the-variants.{Unsigned}
-use Rattle.definitions.specs.Table.{textOf}
+use Rattle.definitions.specs.Table.{textOf, ruleCount}
 use Rattle.definitions.specs.Services.{done, readingOutcome, tableChecks, readService}
 use Rattle.checks.specs.Checks.{readingOf, shapeChecks, readChecks}
 use Rattle.checks.proofs.Serving.{refused-front, decided, done-all, done-value}
@@ -33,7 +33,7 @@ returns c =
     let t = a .table .now in
     let n = length (a .work .now) in
     let m = length (a .result .now) in
-    let served = refused-front (readService Unsigned t n m) (shapeChecks t n) (readChecks Unsigned t m) refl (λ r. readingOutcome (readingOf r 0)) (λ x y. refl) (a .work .now) (a .result .now) (shape-keeps t n) (h .shaped .result) (length t / 2) _ _ (h .shaped .ensures) (told .enum-told .given .1) in
+    let served = refused-front (readService Unsigned t n m) (shapeChecks t n) (readChecks Unsigned t m) refl (λ r. readingOutcome (readingOf r 0)) (λ x y. refl) (a .work .now) (a .result .now) (shape-keeps t n) (h .shaped .result) (ruleCount t) _ _ (h .shaped .ensures) (told .enum-told .given .1) in
     (ap readingOutcome (c .reading .ensures) ∙ served .0, served .1)
 
 chair-of-requires : tie.Need-chair-of-requires
@@ -43,7 +43,7 @@ chair-of-requires c κs =
     let a = h .before .before .before .before .args in
     let t = a .table .now in
     let n = length (a .work .now) in
-    passed-shaped t n (done-all (shapeChecks t n) (length t / 2) _ (sym (h .shaped .ensures) ∙ told .a .given .1)) .0
+    passed-shaped t n (done-all (shapeChecks t n) (ruleCount t) _ (sym (h .shaped .ensures) ∙ told .a .given .1)) .0
 
 read-shaped-requires : tie.Need-read-shaped-requires
 read-shaped-requires c κs =
@@ -52,8 +52,8 @@ read-shaped-requires c κs =
     let a = h .before .before .before .before .args in
     let t = a .table .now in
     let n = length (a .work .now) in
-    let (shaped, most, long) = passed-shaped t n (done-all (shapeChecks t n) (length t / 2) _ (sym (h .shaped .ensures) ∙ told .a .given .1)) in
-    (shaped, most, long, done-value (shapeChecks t n) (length t / 2) _ (sym (h .shaped .ensures) ∙ told .a .given .1))
+    let (shaped, most, long) = passed-shaped t n (done-all (shapeChecks t n) (ruleCount t) _ (sym (h .shaped .ensures) ∙ told .a .given .1)) in
+    (shaped, most, long, done-value (shapeChecks t n) (ruleCount t) _ (sym (h .shaped .ensures) ∙ told .a .given .1))
 
 reading-requires-2 : tie.Need-reading-requires-2
 reading-requires-2 c κs = search needs
@@ -75,7 +75,7 @@ returns-2 c =
     let t = a .table .now in
     let n = length (a .work .now) in
     let m = length (a .result .now) in
-    let passed = done-all (shapeChecks t n) (length t / 2) _ (sym (h .shaped .ensures) ∙ told .a .given .1) in
+    let passed = done-all (shapeChecks t n) (ruleCount t) _ (sym (h .shaped .ensures) ∙ told .a .given .1) in
     let served = decided (readService Unsigned t n m) (shapeChecks t n) (readChecks Unsigned t m) refl (λ r. readingOutcome (readingOf r (k .chair-of .result))) (λ x y. refl) (a .work .now) (a .result .now) passed (refl, (refl, refl)) (b .read-shaped .result) (length (textOf Unsigned t)) (b .read-shaped .last .1 .1 .1 .1 .0) (b .read-shaped .last .1 .1 .1 .0) (ap (λ (x : ℕ). done (length (textOf Unsigned t)) x) (k .chair-of .ensures)) (b .read-shaped .ensures .0) (b .read-shaped .ensures .1 .0) (b .read-shaped .ensures .1 .1) in
     (ap readingOutcome (c .reading2 .ensures) ∙ served .0, served .1)
 

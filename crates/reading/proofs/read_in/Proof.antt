@@ -5,9 +5,9 @@ use lib.ListN.{length}
 use borrow.Author.Needs.{needs}
 use Rattle.definitions.specs.Table.{textOf}
 use Rattle.definitions.specs.Services.{notATable, resultTooShort}
+use Rattle.lists.specs.Decisions.{met}
 use Rattle.checks.specs.Checks.{readChecks}
 use Rattle.checks.proofs.Answers.{refused-met, done-met}
-use Rattle.checks.proofs.Decisions.{met}
 use Rattle.checks.proofs.Serving.{refused-first, done-value, answered-one, answered-later, delivered-met, delivered-later}
 use Rattle.checks.proofs.Delivering.{accepts-check, ready, ready-rules, is-accepted}
 use Rattle.reading.proofs.read_in.Statement.{statement}

@@ -1,7 +1,7 @@
 -- `refusal` is its definition.
 use mathlib.Core.Path.{refl}
 use Rattle.definitions.specs.Services.{numbersOf}
-use Rattle.replies.specs.Replies.{replyNumbers}
+use Rattle.definitions.specs.Replies.{replyNumbers}
 use Rattle.replies.proofs.refusal.Statement.{statement}
 use Rattle.replies.proofs.refusal.Tie as tie
 

@@ -1,6 +1,6 @@
 -- `replied_search` keeps the outcome of the answer that is held.
 use Rattle.definitions.specs.Services.{searchOutcome}
-use Rattle.replies.specs.Replies.{replyNumbers, searchNumbers}
+use Rattle.definitions.specs.Replies.{replyNumbers, searchNumbers}
 use borrow.Author.Needs.{needs}
 use Rattle.replies.proofs.replied_search.Statement.{statement}
 use Rattle.replies.proofs.replied_search.Tie as tie

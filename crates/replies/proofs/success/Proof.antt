@@ -1,7 +1,7 @@
 -- `success` is its definition.
 use mathlib.Core.Path.{refl}
 use Rattle.definitions.specs.Services.{numbersOf}
-use Rattle.replies.specs.Replies.{replyNumbers}
+use Rattle.definitions.specs.Replies.{replyNumbers}
 use Rattle.replies.proofs.success.Statement.{statement}
 use Rattle.replies.proofs.success.Tie as tie
 

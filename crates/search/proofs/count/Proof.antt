@@ -2,9 +2,10 @@
 use mathlib.Core.Path.{_∙_}
 use Prim.Native.Nat.{_-_}
 use native.Mathlib.Omega.{arith}
-use Rattle.search.proofs.Standing.{rules-most, rules-some}
+use Rattle.lyndon.specs.Reading.{rule-range}
 use Rattle.search.proofs.Starting.{pattern-here, counting-start, counted-text, counted-all}
 use borrow.Author.Needs.{needs}
+use Rattle.layout.specs.Layout.{FLAGS}
 use Rattle.search.proofs.count.Statement.{statement}
 use Rattle.search.proofs.count.Tie as tie
 
@@ -31,7 +32,7 @@ count-rules-requires c κs =
     record {
       text = h .text;
       chair = h .chair;
-      counting = counting-start (a .order) (a .pattern .now) (h .text) (h .chair) (a .work .now) (f .flag .last .1 .1 .0) (11008 - 8960) (h .loaded) q (omega arith) (f .flag .ensures);
+      counting = counting-start (a .order) (a .pattern .now) (h .text) (h .chair) (a .work .now) (f .flag .last .1 .1 .0) (11008 - FLAGS) (h .loaded) q (omega arith) (f .flag .ensures);
       size = h .size;
     }
 
@@ -39,14 +40,13 @@ sub-number-of : tie.Need-sub-number-of
 sub-number-of c =
     let s = c .before .before .before .before .before .before .before .before .before .before .before in
     let h = s .pre .0 in
-    omega (arith, h .size, rules-some (s .args .order) (h .text) (h .chair) (s .args .work .now) (h .loaded))
+    omega (arith, h .size, rule-range (s .args .order) (h .text) (h .chair) (h .loaded .kept .stored))
 
 number-of-requires : tie.Need-number-of-requires
 number-of-requires c κs =
     let s = c .before .before .before .before .before .before .before .before .before .before .before in
     let h = s .pre .0 in
-    let n = rules-most (s .args .order) (h .text) (h .chair) (s .args .work .now) (h .loaded) in
-    let m = rules-some (s .args .order) (h .text) (h .chair) (s .args .work .now) (h .loaded) in
+    let n = rule-range (s .args .order) (h .text) (h .chair) (h .loaded .kept .stored) in
     record { low = omega (arith, h .size); long = omega (arith, h .loaded .kept .long) }
 
 same-length : tie.Need-same-length
@@ -60,10 +60,10 @@ returns c text chair h e =
     let s = k .before in
     let a = s .args in
     let q = pattern-here (a .pattern .now) (s .pre .1) (s .pre .2) (λ i l. omega (arith, k .shared-slice-known .given i)) in
-    let start = counting-start (a .order) (a .pattern .now) text chair (a .work .now) (f .flag .last .1 .1 .0) (11008 - 8960) h q (omega arith) (f .flag .ensures) in
+    let start = counting-start (a .order) (a .pattern .now) text chair (a .work .now) (f .flag .last .1 .1 .0) (11008 - FLAGS) h q (omega arith) (f .flag .ensures) in
     let all = r .count-rules .ensures text chair start e in
     let w = r .count-rules .last .1 .1 .0 in (
-      c .number-of .ensures ∙ counted-text (a .order) (a .pattern .now) text chair (a .rules) w (omega (arith, rules-some (a .order) text chair (a .work .now) h)) e all,
+      c .number-of .ensures ∙ counted-text (a .order) (a .pattern .now) text chair (a .rules) w (omega (arith, rule-range (a .order) text chair (h .kept .stored))) e all,
       counted-all (a .order) (a .pattern .now) text chair (a .rules) w e all,
     )
 

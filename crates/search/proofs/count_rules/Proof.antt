@@ -3,8 +3,8 @@ use mathlib.Core.Path.{_≡_, refl, _∙_, subst}
 use Prim.Native.Nat.{ℕ, _-_, _≤_}
 use native.Mathlib.Omega.{arith}
 use lib.ListN.{length}
+use Rattle.lyndon.specs.Reading.{rule-range}
 use Rattle.search.specs.Searching.{Counting}
-use Rattle.search.proofs.Standing.{rules-most}
 use Rattle.search.proofs.Counting.{Counted, counted-turn}
 use Rattle.search.proofs.count_rules.Statement.{statement}
 use Rattle.search.proofs.count_rules.Tie as tie
@@ -30,7 +30,7 @@ add-put c =
     let at = c .before .before .before .before in
     let s = at .before .before .before in
     let h = s .pre in
-    let n = rules-most (s .args .order) (h .text) (h .chair) (s .args .work .now) (h .counting .loaded) in
+    let n = rule-range (s .args .order) (h .text) (h .chair) (h .counting .loaded .kept .stored) in
     omega (arith, h .size, c .before .before .before .loop-test .taken)
 
 put-requires : tie.Need-put-requires Inv-loop μ-loop
@@ -38,7 +38,7 @@ put-requires c κs =
     let at = c .before .before .before .before in
     let s = at .before .before .before in
     let h = s .pre in
-    let n = rules-most (s .args .order) (h .text) (h .chair) (s .args .work .now) (h .counting .loaded) in
+    let n = rule-range (s .args .order) (h .text) (h .chair) (h .counting .loaded .kept .stored) in
     omega (arith, h .size, c .before .before .before .loop-test .taken, at .loop .inv .1, h .counting .loaded .kept .long)
 
 add-r : tie.Need-add-r Inv-loop μ-loop

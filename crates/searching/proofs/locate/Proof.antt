@@ -1,11 +1,10 @@
 -- `locate` ends in one of two ways: refused by the pattern or the table's shape, or decided by what the table spells and by the result slice.
 use mathlib.Core.Path.{refl, sym, _∙_}
 use mathlib.Core.List.{_++_}
-use Prim.Native.Nat.{_/_}
 use lib.ListN.{length}
 use borrow.Author.Needs.{needs}
 use Rattle.definitions.specs.declared.Order.the-variants.{Unsigned}
-use Rattle.definitions.specs.Table.{textOf}
+use Rattle.definitions.specs.Table.{textOf, ruleCount}
 use Rattle.definitions.specs.Occurrences.{occurrences}
 use Rattle.definitions.specs.Services.{outcomeOf, searchOutcome, patternChecks, tableChecks, locateService}
 use Rattle.checks.specs.Checks.{shapeChecks, locateChecks}
@@ -33,7 +32,7 @@ returns c =
     let n = length (a .work .now) in
     let m = length (a .result .now) in
     let front = patternChecks p ++ shapeChecks t n in
-    refused-front (locateService Unsigned t p n m) front (locateChecks Unsigned t p m) refl outcomeOf (λ x y. refl) (a .work .now) (a .result .now) (refl, (refl, (refl, (refl, (refl, refl))))) (h .searchable .result) (length t / 2) _ _ (h .searchable .ensures) (c .enum-told .given .1)
+    refused-front (locateService Unsigned t p n m) front (locateChecks Unsigned t p m) refl outcomeOf (λ x y. refl) (a .work .now) (a .result .now) (refl, (refl, (refl, (refl, (refl, refl))))) (h .searchable .result) (ruleCount t) _ _ (h .searchable .ensures) (c .enum-told .given .1)
 
 locate-shaped-requires : tie.Need-locate-shaped-requires
 locate-shaped-requires c κs =
@@ -45,10 +44,10 @@ locate-shaped-requires c κs =
     let n = length (a .work .now) in
     let m = length (a .result .now) in
     let front = patternChecks p ++ shapeChecks t n in
-    let (pattern, table) = passed-parts (patternChecks p) (shapeChecks t n) (done-all front (length t / 2) _ (sym (h .searchable .ensures) ∙ told .a .given .1)) in
+    let (pattern, table) = passed-parts (patternChecks p) (shapeChecks t n) (done-all front (ruleCount t) _ (sym (h .searchable .ensures) ∙ told .a .given .1)) in
     let (shaped, most, long) = passed-shaped t n table in
     let (some, short) = passed-pattern p pattern in
-    (shaped, most, long, done-value front (length t / 2) _ (sym (h .searchable .ensures) ∙ told .a .given .1), some, short)
+    (shaped, most, long, done-value front (ruleCount t) _ (sym (h .searchable .ensures) ∙ told .a .given .1), some, short)
 
 same-length : tie.Need-same-length
 same-length c = search needs
@@ -68,7 +67,7 @@ returns-2 c =
     let n = length (a .work .now) in
     let m = length (a .result .now) in
     let front = patternChecks p ++ shapeChecks t n in
-    let passed = done-all front (length t / 2) _ (sym (h .searchable .ensures) ∙ told .a .given .1) in
+    let passed = done-all front (ruleCount t) _ (sym (h .searchable .ensures) ∙ told .a .given .1) in
     decided (locateService Unsigned t p n m) front (locateChecks Unsigned t p m) refl outcomeOf (λ x y. refl) (a .work .now) (a .result .now) passed (refl, (refl, refl)) (k .locate-shaped .result) (length (occurrences p (textOf Unsigned t))) (k .locate-shaped .last .1 .1 .1 .1 .1 .0) (k .locate-shaped .last .1 .1 .1 .1 .0) refl (k .locate-shaped .ensures .0) (k .locate-shaped .ensures .1 .0) (k .locate-shaped .ensures .1 .1)
 
 pub locate-spec : {M : Type 1} → statement M

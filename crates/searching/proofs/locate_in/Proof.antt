@@ -6,9 +6,9 @@ use borrow.Author.Needs.{needs}
 use Rattle.definitions.specs.Table.{textOf}
 use Rattle.definitions.specs.Occurrences.{occurrences}
 use Rattle.definitions.specs.Services.{notATable, resultTooShort}
+use Rattle.lists.specs.Decisions.{met}
 use Rattle.checks.specs.Checks.{locateChecks}
 use Rattle.checks.proofs.Answers.{refused-met, done-met}
-use Rattle.checks.proofs.Decisions.{met}
 use Rattle.checks.proofs.Serving.{refused-first, done-value, answered-one, answered-later, delivered-met, delivered-later}
 use Rattle.checks.proofs.Delivering.{accepts-check, ready, ready-rules, is-accepted}
 use Rattle.searching.proofs.locate_in.Statement.{statement}

@@ -1,8 +1,8 @@
 -- `searchable` answers the checks of the pattern, and where none is met those of the table's shape.
 use mathlib.Core.Path.{sym, _∙_}
-use Prim.Native.Nat.{_/_}
 use lib.ListN.{length}
 use borrow.Author.Needs.{needs}
+use Rattle.definitions.specs.Table.{ruleCount}
 use Rattle.definitions.specs.Services.{patternChecks}
 use Rattle.checks.specs.Checks.{shapeChecks}
 use Rattle.checks.proofs.Serving.{answered-front, answered-behind, done-all}
@@ -22,7 +22,7 @@ returns : tie.Need-returns
 returns c =
     let f = c .before .before in
     let a = f .before .before .before .args in
-    answered-front (patternChecks (a .pattern .now)) (shapeChecks (a .table .now) (a .n)) (length (a .pattern .now)) (length (a .table .now) / 2) _ _ (f .pattern-fits .result) (f .pattern-fits .ensures) (c .enum-told2 .given .1)
+    answered-front (patternChecks (a .pattern .now)) (shapeChecks (a .table .now) (a .n)) (length (a .pattern .now)) (ruleCount (a .table .now)) _ _ (f .pattern-fits .result) (f .pattern-fits .ensures) (c .enum-told2 .given .1)
 
 shaped-requires : tie.Need-shaped-requires
 shaped-requires c κs = search needs
@@ -32,7 +32,7 @@ returns-2 c =
     let told = c .before in
     let f = told .before .before in
     let a = f .before .before .before .args in
-    answered-behind (shapeChecks (a .table .now) (a .n)) (length (a .table .now) / 2) (c .shaped .result)
+    answered-behind (shapeChecks (a .table .now) (a .n)) (ruleCount (a .table .now)) (c .shaped .result)
     (done-all (patternChecks (a .pattern .now)) (length (a .pattern .now)) _ (sym (f .pattern-fits .ensures) ∙ told .enum-told .given .1)) (c .shaped .ensures)
 
 pub searchable-spec : {M : Type 1} → statement M

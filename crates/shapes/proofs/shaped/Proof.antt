@@ -1,11 +1,11 @@
 -- `shaped` answers the first of its checks that is met.
 use mathlib.Core.List.{[], _∷_}
-use Prim.Native.Nat.{_/_}
 use lib.ListN.{length}
 use Rattle.definitions.specs.Services.{workTooShort, hasBadWord, tableLength}
+use Rattle.definitions.specs.Table.{ruleCount}
+use Rattle.lists.specs.Decisions.{met, later}
 use Rattle.checks.specs.Checks.{shapeChecks}
 use Rattle.checks.proofs.Answers.{refused-met, done-met}
-use Rattle.checks.proofs.Decisions.{met, later}
 use Rattle.checks.proofs.Serving.{refused-first, answered-one, answered-later}
 use Rattle.shapes.proofs.Shaping.{length-passed}
 use borrow.Author.Needs.{needs}
@@ -28,7 +28,7 @@ returns c =
     let t = a .table .now in
     let n = a .n in
     let q = refused-met (workTooShort n) n _ _ (w .work-fits .result) (w .work-fits .ensures) (c .enum-told2 .given .1) in
-    refused-first (workTooShort n) n (length t / 2) (shapeChecks t n) (w .work-fits .result) (w .work-fits .ensures) q (met q)
+    refused-first (workTooShort n) n (ruleCount t) (shapeChecks t n) (w .work-fits .result) (w .work-fits .ensures) q (met q)
 
 length-fits-requires : tie.Need-length-fits-requires
 length-fits-requires c κs = search needs
@@ -48,7 +48,7 @@ returns-2 c =
     let n = a .n in
     let room = done-met (workTooShort n) n _ (w .work-fits .result) (w .work-fits .ensures) (l .before .enum-told .given .1) in
     let q = refused-met (tableLength (length t)) (length t) _ _ (l .length-fits .result) (l .length-fits .ensures) (c .enum-told4 .given .1) in
-    refused-first (tableLength (length t)) (length t) (length t / 2) (shapeChecks t n) (l .length-fits .result) (l .length-fits .ensures) q (later (workTooShort n) room (met q))
+    refused-first (tableLength (length t)) (length t) (ruleCount t) (shapeChecks t n) (l .length-fits .result) (l .length-fits .ensures) q (later (workTooShort n) room (met q))
 
 words-fit-requires : tie.Need-words-fit-requires
 words-fit-requires c κs =
@@ -65,9 +65,9 @@ returns-3 c =
     let n = a .n in
     let room = done-met (workTooShort n) n _ (w .work-fits .result) (w .work-fits .ensures) (l .before .enum-told .given .1) in
     let q = done-met (tableLength (length t)) (length t) _ (l .length-fits .result) (l .length-fits .ensures) (c .before .enum-told3 .given .1) in
-    answered-later (workTooShort n) (tableLength (length t) ∷ hasBadWord t ∷ []) (length t / 2) (c .words-fit .result) room
-    (answered-later (tableLength (length t)) (hasBadWord t ∷ []) (length t / 2) (c .words-fit .result) q
-    (answered-one (hasBadWord t) (length t / 2) (c .words-fit .result) (c .words-fit .ensures)))
+    answered-later (workTooShort n) (tableLength (length t) ∷ hasBadWord t ∷ []) (ruleCount t) (c .words-fit .result) room
+    (answered-later (tableLength (length t)) (hasBadWord t ∷ []) (ruleCount t) (c .words-fit .result) q
+    (answered-one (hasBadWord t) (ruleCount t) (c .words-fit .result) (c .words-fit .ensures)))
 
 pub shaped-spec : {M : Type 1} → statement M
 shaped-spec =

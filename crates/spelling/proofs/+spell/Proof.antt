@@ -7,7 +7,7 @@ use borrow.Author.Needs.{needs}
 use Rattle.definitions.specs.Words.{placed}
 use Rattle.lists.specs.Lists.{placed-both}
 use Rattle.spelling.specs.Spelling.{ruleBytes}
-use Rattle.spelling.proofs.Spelling.{Halves, spelled-symbol, spelled-pair, halves-size}
+use Rattle.spelling.proofs.Spelling.{PairOf, spelled-symbol, spelled-pair, halves-size}
 use lib.ListN.{length, take, drop, getD, length-take, length-drop}
 use borrow.Fn.Kinds.{In}
 use borrow.Fn.PlainCycle.{Measures, is, falls, and}
@@ -15,6 +15,7 @@ use Rattle.spelling.proofs.spell.Reads as spell
 use Rattle.spelling.proofs.spell.Kinds as spell-kinds
 use Rattle.spelling.proofs.+spell.Lts-spell as spell-lts
 use Rattle.slices.proofs.wide.Reads as wide-reads
+use Rattle.layout.specs.Layout.{KIND}
 use Rattle.spelling.proofs.spell_symbol.Reads as spell-symbol-reads
 use Rattle.spelling.proofs.+spell.{statement}
 use Rattle.spelling.proofs.+spell.Tie.{close}
@@ -87,16 +88,16 @@ spell-wide-requires-2 t c κs = tt
 -- once the left half is spelled: how many bytes it has, and how many are left for the right half
 left-known : (t : ℕ) (c : spell-lts.After-spell (spell-symbol-reads.Asked, spell-symbol-reads.Learnt, wide-reads.Asked, wide-reads.Learnt, spell-below t, spell.Post) (spell-at t) spell.Post)
     → let s = c .before .before .before .before .before .before .before .before in
-    (c .spell .result ≡ length (ruleBytes (s .args .rules .now) (getD (s .args .rules .now) (2 * s .args .r) 0 % 1073741824)))
-    × Halves (s .args .rules .now) (s .args .r) (getD (s .args .rules .now) (2 * s .args .r) 0 % 1073741824) (getD (s .args .rules .now) (2 * s .args .r + 1) 0 % 1073741824)
-    × (length (ruleBytes (s .args .rules .now) (s .args .r)) ≡ c .spell .result + length (ruleBytes (s .args .rules .now) (getD (s .args .rules .now) (2 * s .args .r + 1) 0 % 1073741824)))
+    (c .spell .result ≡ length (ruleBytes (s .args .rules .now) (getD (s .args .rules .now) (2 * s .args .r) 0 % KIND)))
+    × PairOf (s .args .rules .now) (s .args .r) (getD (s .args .rules .now) (2 * s .args .r) 0 % KIND) (getD (s .args .rules .now) (2 * s .args .r + 1) 0 % KIND)
+    × (length (ruleBytes (s .args .rules .now) (s .args .r)) ≡ c .spell .result + length (ruleBytes (s .args .rules .now) (getD (s .args .rules .now) (2 * s .args .r + 1) 0 % KIND)))
 left-known t c =
     let w = c .before .before in
     let test = w .before in
     let s = test .before .before .before .before .before in
     let h = spelled-pair (s .args .rules .now) (s .pre .1 .0) (s .args .r) (s .pre .1 .1) (test .if1 .left) in
     let size = halves-size (s .args .rules .now) (s .args .r) _ _ h in
-    let k : c .spell .result ≡ length (ruleBytes (s .args .rules .now) (getD (s .args .rules .now) (2 * s .args .r) 0 % 1073741824)) = c .spell .ensures .0 ∙ ap (λ (q : ℕ). length (ruleBytes (s .args .rules .now) q)) (w .wide .ensures) in
+    let k : c .spell .result ≡ length (ruleBytes (s .args .rules .now) (getD (s .args .rules .now) (2 * s .args .r) 0 % KIND)) = c .spell .ensures .0 ∙ ap (λ (q : ℕ). length (ruleBytes (s .args .rules .now) q)) (w .wide .ensures) in
     (k, h, omega (arith, k, size))
 
 spell-sub-spell : (t : ℕ) → spell-lts.Need-sub-spell (spell-symbol-reads.Asked, spell-symbol-reads.Learnt, wide-reads.Asked, wide-reads.Learnt, spell-below t, spell.Post) (spell-at t) spell.Post
@@ -132,7 +133,7 @@ spell-add-result t c =
     let called = again .before .before .before .before .before in
     let s = called .before .before .before .before .before .before .before .before in
     let (k, h, size) = left-known t called in
-    let l : again .spell2 .result ≡ length (ruleBytes (s .args .rules .now) (getD (s .args .rules .now) (2 * s .args .r + 1) 0 % 1073741824)) = again .spell2 .ensures .0 ∙ ap (λ (q : ℕ). length (ruleBytes (s .args .rules .now) q)) (again .before .before .wide2 .ensures) in
+    let l : again .spell2 .result ≡ length (ruleBytes (s .args .rules .now) (getD (s .args .rules .now) (2 * s .args .r + 1) 0 % KIND)) = again .spell2 .ensures .0 ∙ ap (λ (q : ℕ). length (ruleBytes (s .args .rules .now) q)) (again .before .before .wide2 .ensures) in
     omega (arith, size, l, s .pre .1 .2)
 
 spell-same-length-2 : (t : ℕ) → spell-lts.Need-same-length-2 (spell-symbol-reads.Asked, spell-symbol-reads.Learnt, wide-reads.Asked, wide-reads.Learnt, spell-below t, spell.Post) (spell-at t) spell.Post
@@ -144,11 +145,11 @@ spell-returns-2 t c =
     let called = again .before .before .before .before .before in
     let s = called .before .before .before .before .before .before .before .before in
     let (k, h, size) = left-known t called in
-    let l : again .spell2 .result ≡ length (ruleBytes (s .args .rules .now) (getD (s .args .rules .now) (2 * s .args .r + 1) 0 % 1073741824)) = again .spell2 .ensures .0 ∙ ap (λ (q : ℕ). length (ruleBytes (s .args .rules .now) q)) (again .before .before .wide2 .ensures) in
+    let l : again .spell2 .result ≡ length (ruleBytes (s .args .rules .now) (getD (s .args .rules .now) (2 * s .args .r + 1) 0 % KIND)) = again .spell2 .ensures .0 ∙ ap (λ (q : ℕ). length (ruleBytes (s .args .rules .now) q)) (again .before .before .wide2 .ensures) in
     let t′ = s .args .rules .now in
     let old = s .args .result .now in
-    let u = getD t′ (2 * s .args .r) 0 % 1073741824 in
-    let v = getD t′ (2 * s .args .r + 1) 0 % 1073741824 in
+    let u = getD t′ (2 * s .args .r) 0 % KIND in
+    let v = getD t′ (2 * s .args .r + 1) 0 % KIND in
     let left : called .spell .last .1 .1 .0 ≡ placed (ruleBytes t′ u) old = called .spell .ensures .1 ∙ ap (λ (q : ℕ). placed (ruleBytes t′ q) old) (called .before .before .wide .ensures) in
     let w = called .spell .last .1 .1 .0 in
     let rest = take (length w - called .spell .result) (drop (called .spell .result) w) in

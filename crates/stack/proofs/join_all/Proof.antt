@@ -4,7 +4,7 @@ use Prim.Native.Nat.{ℕ}
 use native.Mathlib.Omega.{arith}
 use lib.ListN.{length}
 use Rattle.lyndon.specs.Closings.{State, joins}
-use Rattle.stack.specs.Areas.{Holds, Joins, Below}
+use Rattle.stack.specs.Areas.{Holds, Joinable, Below}
 use Rattle.stack.proofs.Pushing.{Left, left-joins, left-next}
 use Rattle.stack.proofs.join_all.Statement.{statement}
 use Rattle.stack.proofs.join_all.Tie as tie
@@ -12,7 +12,7 @@ use Rattle.stack.proofs.join_all.Tie as tie
 abbrev Inv-loop : tie.InvT-loop
 Inv-loop work₀ k t₀ left₀ work t left =
     (length work ≡ length work₀) × Below work₀ work
-    × ((p : Joins work₀ (t₀ .rules) (t₀ .depth) k) → Left work (t .rules) (t .depth) left (p .o) (joins k (p .s)))
+    × ((p : Joinable work₀ (t₀ .rules) (t₀ .depth) k) → Left work (t .rules) (t .depth) left (p .o) (joins k (p .s)))
 
 abbrev μ-loop : tie.MeasureT-loop
 μ-loop work₀ k t₀ left₀ work t left = left

@@ -3,6 +3,7 @@ use mathlib.Core.Path.{sym, subst}
 use borrow.Author.Needs.{needs}
 use native.Mathlib.Omega.{arith}
 use Rattle.lists.specs.Parts.{part}
+use Rattle.layout.specs.Layout.{LINKS, TABLE}
 use Rattle.dict.specs.Dictionary.{Dict}
 use Rattle.stack.proofs.Pushing.{pushes-most, pushes-room, push-found, push-added, found-below, added-stays}
 use Rattle.stack.proofs.push_rule.Statement.{statement}
@@ -14,7 +15,7 @@ look-up-requires c κs =
     let a = s .args in
     let p = s .pre in
     let most = pushes-most (a .work .now) (a .c .rules) (a .c .depth) (a .x) (a .y) p in (
-      subst (Dict (part 11520 4608 (a .work .now)) (part 8192 3328 (a .work .now))) (sym (p .holds .count)) (p .holds .rules .dict),
+      subst (Dict (part TABLE 4608 (a .work .now)) (part LINKS 3328 (a .work .now))) (sym (p .holds .count)) (p .holds .rules .dict),
       most,
       p .holds .rules .long,
     )

@@ -1,18 +1,20 @@
 -- `words` stays in the slice.
 use Prim.Native.Nat.{_≤_, _-_}
 use native.Mathlib.Omega.{arith}
-use lib.ListN.{length}
 use Rattle.trials.proofs.printing.words.Statement.{statement}
 use Rattle.trials.proofs.printing.words.Tie as tie
 
 abbrev Inv-loop : tie.InvT-loop
-Inv-loop name l first i₀ i = 0 ≤ i
+Inv-loop name l n first end i₀ i = 0 ≤ i
 
 abbrev μ-loop : tie.MeasureT-loop
-μ-loop name l first i₀ i = length l - i
+μ-loop name l n first end i₀ i = end - i
 
 text-requires : tie.Need-text-requires Inv-loop μ-loop
 text-requires c κs = tt
+
+least-requires : tie.Need-least-requires Inv-loop μ-loop
+least-requires c κs = tt
 
 loop-holds : tie.Need-loop-holds Inv-loop μ-loop
 loop-holds c = omega arith
@@ -45,6 +47,7 @@ words-spec =
     Inv-loop
     μ-loop
     text-requires
+    least-requires
     loop-holds
     mul-word
     shared-slice-read-word

@@ -1,0 +1,70 @@
+-- The constants of the layout under their names, and what stands in the areas of a search. w is the work slice, r a rule.
+use mathlib.Core.List.{List}
+use Prim.Native.Nat.{ℕ, _+_, _*_, _/_, _%_}
+use lib.ListN.{getD}
+
+abbrev pub LONGEST : ℕ
+LONGEST = 2048
+
+abbrev pub CLOSINGS : ℕ
+CLOSINGS = 4096
+
+abbrev pub STACK : ℕ
+STACK = 6144
+
+abbrev pub LINKS : ℕ
+LINKS = 8192
+
+abbrev pub TABLE : ℕ
+TABLE = 11520
+
+abbrev pub CHAIR : ℕ
+CHAIR = 11521
+
+abbrev pub LENGTHS : ℕ
+LENGTHS = 2048
+
+abbrev pub PLACES : ℕ
+PLACES = 4352
+
+abbrev pub FOUND : ℕ
+FOUND = 6656
+
+abbrev pub FLAGS : ℕ
+FLAGS = 8960
+
+abbrev pub WORK : ℕ
+WORK = 16384
+
+abbrev pub KIND : ℕ
+KIND = 1073741824
+
+abbrev pub RIGHT_HALF : ℕ
+RIGHT_HALF = 2147483648
+
+abbrev pub BESIDE_SYMBOL : ℕ
+BESIDE_SYMBOL = 3221225472
+
+-- the length of a rule's string, and a place at which it stands
+abbrev pub lengthIn : List ℕ → ℕ → ℕ
+lengthIn w r = getD w (LENGTHS + r) 0
+
+abbrev pub placeIn : List ℕ → ℕ → ℕ
+placeIn w r = getD w (PLACES + r) 0
+
+-- how many occurrences it has, and the cut at which one straddles its join, 0 if none does
+abbrev pub PACK : ℕ
+PACK = 4096
+
+abbrev pub countIn : List ℕ → ℕ → ℕ
+countIn w r = getD w (FOUND + r) 0 / PACK
+
+abbrev pub joinCutIn : List ℕ → ℕ → ℕ
+joinCutIn w r = getD w (FOUND + r) 0 % PACK
+
+-- its halves, where it is a pair
+abbrev pub leftIn : List ℕ → ℕ → ℕ
+leftIn w r = getD w (TABLE + 2 * r) 0 % KIND
+
+abbrev pub rightIn : List ℕ → ℕ → ℕ
+rightIn w r = getD w (TABLE + 2 * r + 1) 0 % KIND

@@ -1,0 +1,55 @@
+// Where each area of the work slice begins, and what its words are made of.
+//
+// While a table is built, checked or read:
+//
+//     0                ranks of the marked text              2048 words
+//     LONGEST   2048   length of the longest Lyndon word     2048
+//     CLOSINGS  4096   joins that close behind a symbol      2048
+//     STACK     6144   rules                                 2048
+//     LINKS     8192   buckets, then links of rules          1024 + 2304
+//     TABLE     11520  the table                             4608
+//
+// During a search:
+//
+//     0                ranks of the marked text              2048 words
+//     LENGTHS   2048   length of a rule's string             2304
+//     PLACES    4352   a place at which it stands            2304
+//     FOUND     6656   its occurrences * 4096 + its join's cut  2304
+//     FLAGS     8960   a flag for each cut                   2048
+//     TABLE     11520  the table                             4608
+pub const LONGEST: usize = 2048;
+
+pub const CLOSINGS: usize = 4096;
+
+pub const STACK: usize = 6144;
+
+pub const LINKS: usize = 8192;
+// The buckets end, and the links of rules begin.
+pub const LINKS_OF_RULES: usize = 9216;
+
+pub const TABLE: usize = 11520;
+// The second word of rule 0, which carries the chair number.
+pub const CHAIR: usize = 11521;
+
+pub const TABLE_END: usize = 16128;
+
+pub const LENGTHS: usize = 2048;
+
+pub const PLACES: usize = 4352;
+
+pub const FOUND: usize = 6656;
+
+pub const FLAGS: usize = 8960;
+
+pub const FLAGS_END: usize = 11008;
+// The words of the work slice that the services use.
+pub const WORK: usize = 16384;
+
+// A word of a table is kind * KIND + number: kind 0 a symbol, 1 a left half, 2 a right half, 3 what stands beside a symbol.
+pub const KIND: u32 = 1073741824;
+
+pub const LEFT_HALF: u32 = 1073741824;
+
+pub const RIGHT_HALF: u32 = 2147483648;
+
+pub const BESIDE_SYMBOL: u32 = 3221225472;

@@ -1,0 +1,42 @@
+// Bytes, ranks and symbol numbers: all that depends on the order of samples.
+use definitions::Order;
+ghost use mathlib.Core.Path.{_≡_};
+ghost use Prim.Native.Nat.{_<_};
+ghost use Rattle.definitions.specs.Table.{rankOf, byteOf, numberOfRank, rankOfNumber};
+
+// The rank of a byte in an order of samples.
+pub fn rank_of(order: Order, byte: u8) -> u32
+    ensures { λ r. ⌜ r ≡ rankOf order byte ⌝ }
+{
+    match order {
+        Order::Unsigned => byte as u32 + 1,
+    }
+}
+
+// The byte of a sample's rank.
+pub fn byte_of(order: Order, rank: u32) -> u8
+    requires { ⌜ (0 < rank) × (rank < 257) ⌝ }
+    ensures { λ r. ⌜ r ≡ byteOf order rank ⌝ }
+{
+    match order {
+        Order::Unsigned => (rank - 1) as u8,
+    }
+}
+
+// The number of a rank in a symbol rule's first word.
+pub fn number_of_rank(order: Order, rank: u32) -> u32
+    ensures { λ r. ⌜ r ≡ numberOfRank order rank ⌝ }
+{
+    match order {
+        Order::Unsigned => rank,
+    }
+}
+
+// The rank of a symbol rule's number.
+pub fn rank_of_number(order: Order, number: u32) -> u32
+    ensures { λ r. ⌜ r ≡ rankOfNumber order number ⌝ }
+{
+    match order {
+        Order::Unsigned => number,
+    }
+}
