@@ -14,10 +14,13 @@ use naive::generating::drive;
 use naive::generating::motif;
 use naive::generating::next;
 use naive::least;
+ghost use mathlib.Core.Path.{_≡_};
 ghost use Prim.Native.Nat.{_≤_};
 
 // Runs so many cases, and answers how many counts there are.
-pub fn generate(n: usize, tally: &mut [u32]) -> usize {
+pub fn generate(n: usize, tally: &mut [u32]) -> usize
+    ensures { λ k. ⌜ k ≡ 14 ⌝ }
+{
     slices::clear(tally);
     cases(n, tally);
     14

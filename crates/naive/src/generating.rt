@@ -1,9 +1,12 @@
 // Drives and motifs made from a sequence of numbers: each is 48271 times the one before it, modulo 2147483647.
 use crate::least;
-ghost use Prim.Native.Nat.{_≤_};
+ghost use mathlib.Core.Path.{_≡_};
+ghost use Prim.Native.Nat.{_*_, _%_, _≤_};
 
 // The number after another one.
-pub fn next(seed: u64) -> u64 {
+pub fn next(seed: u64) -> u64
+    ensures { λ r. ⌜ r ≡ seed % 2147483647 * 48271 % 2147483647 ⌝ }
+{
     seed % 2147483647 * 48271 % 2147483647
 }
 
