@@ -1,16 +1,18 @@
-// The lowest word of a table from anywhere that no table has at its place.
+// Whether the words of a table from anywhere stand where tables have such words: the lowest that does not is refused.
+use definitions::Answer;
 use layout::KIND;
 use slices::wide;
 ghost use mathlib.Core.Path.{_≡_};
 ghost use Prim.Native.Nat.{_*_, _/_};
 ghost use lib.ListN.{length};
-ghost use Rattle.definitions.specs.Words.{least};
-ghost use Rattle.definitions.specs.Table.{badFirst, badSecond, badWord, ruleCount};
+ghost use Rattle.definitions.specs.Table.{badFirst, badSecond, ruleCount};
+ghost use Rattle.definitions.specs.Services.{hasBadWord};
+ghost use Rattle.lists.specs.Decisions.{checked};
 
-// The lowest index of a bad word, the table's length if there is none.
-pub fn bad_word(table: &[u32]) -> usize
+// Refusal 6 at the lowest bad word, or the number of rules.
+pub fn words_fit(table: &[u32]) -> Answer
     requires { ⌜ length (now table) ≡ 2 * (ruleCount (now table)) ⌝ }
-    ensures { λ r. ⌜ r ≡ least (badWord (now (table .entry))) (length (now (table .entry))) ⌝ }
+    ensures { λ r. ⌜ r ≡ checked (hasBadWord (now (table .entry))) (ruleCount (now (table .entry))) ⌝ }
 {
     let n = table.len() / 2;
     let mut r = 0;
@@ -18,14 +20,14 @@ pub fn bad_word(table: &[u32]) -> usize
         let x = table[2 * r];
         let y = table[2 * r + 1];
         if bad_first(r, x) {
-            return 2 * r;
+            return Answer::Refused(6, 2 * r);
         }
         if bad_second(r, x, y) {
-            return 2 * r + 1;
+            return Answer::Refused(6, 2 * r + 1);
         }
         r += 1;
     }
-    table.len()
+    Answer::Done(n)
 }
 
 // Whether x is bad as the first word of rule r.

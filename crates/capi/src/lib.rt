@@ -5,11 +5,9 @@ use definitions::SearchReply;
 use replies::replied;
 use replies::replied_reading;
 use replies::replied_search;
-ghost use mathlib.Core.Path.{_≡_};
-ghost use lib.ListN.{length};
-ghost use Rattle.definitions.specs.declared.Order.the-variants.{Unsigned};
-ghost use Rattle.definitions.specs.Services.{numbersOf, outcome, resultAfter, workAfter, buildService, checkService, readService, extractService, countService, locateService, cutsService};
-ghost use Rattle.definitions.specs.Replies.{replyNumbers, searchNumbers};
+ghost use mathlib.Core.List.{[], _∷_};
+ghost use Rattle.definitions.specs.Services.{Serves, sampleOrder, buildService, checkService, readService, extractService, countService, locateService, cutsService};
+ghost use Rattle.definitions.specs.Replies.{Replies, SearchReplies};
 
 // Builds the table of a text and a chair number: `index::build`.
 #[no_mangle]
@@ -19,9 +17,7 @@ pub extern "C" fn sirbolta_build(
     work: &mut [u32],
     result: &mut [u32],
 ) -> Reply
-    ensures answer { λ r. ⌜ replyNumbers r ≡ numbersOf (outcome (buildService Unsigned (now (text .entry)) chair (length (now (work .entry))) (length (now (result .entry))))) ⌝ }
-    ensures result { λ _. ⌜ now (result .exit) ≡ resultAfter (buildService Unsigned (now (text .entry)) chair (length (now (work .entry))) (length (now (result .entry)))) (now (result .entry)) ⌝ }
-    ensures work { λ _. ⌜ now (work .exit) ≡ workAfter (buildService Unsigned (now (text .entry)) chair (length (now (work .entry))) (length (now (result .entry)))) (now (work .entry)) ⌝ }
+    ensures { λ r. ⌜ Serves (buildService sampleOrder (now (text .entry)) chair (now (work .entry)) (now (result .entry))) (Replies r) (now (work .exit) ∷ now (result .exit) ∷ []) ⌝ }
 {
     replied(index::build(text, chair, work, result))
 }
@@ -29,8 +25,7 @@ pub extern "C" fn sirbolta_build(
 // Checks a table: `index::check`.
 #[no_mangle]
 pub extern "C" fn sirbolta_check(table: &[u32], work: &mut [u32]) -> Reply
-    ensures answer { λ r. ⌜ replyNumbers r ≡ numbersOf (outcome (checkService Unsigned (now (table .entry)) (length (now (work .entry))))) ⌝ }
-    ensures work { λ _. ⌜ now (work .exit) ≡ workAfter (checkService Unsigned (now (table .entry)) (length (now (work .entry)))) (now (work .entry)) ⌝ }
+    ensures { λ r. ⌜ Serves (checkService sampleOrder (now (table .entry)) (now (work .entry))) (Replies r) (now (work .exit) ∷ []) ⌝ }
 {
     replied(index::check(table, work))
 }
@@ -38,9 +33,7 @@ pub extern "C" fn sirbolta_check(table: &[u32], work: &mut [u32]) -> Reply
 // Reads a table back, text and chair number: `index::read`.
 #[no_mangle]
 pub extern "C" fn sirbolta_read(table: &[u32], work: &mut [u32], result: &mut [u8]) -> Reply
-    ensures answer { λ r. ⌜ replyNumbers r ≡ numbersOf (outcome (readService Unsigned (now (table .entry)) (length (now (work .entry))) (length (now (result .entry))))) ⌝ }
-    ensures result { λ _. ⌜ now (result .exit) ≡ resultAfter (readService Unsigned (now (table .entry)) (length (now (work .entry))) (length (now (result .entry)))) (now (result .entry)) ⌝ }
-    ensures work { λ _. ⌜ now (work .exit) ≡ workAfter (readService Unsigned (now (table .entry)) (length (now (work .entry))) (length (now (result .entry)))) (now (work .entry)) ⌝ }
+    ensures { λ r. ⌜ Serves (readService sampleOrder (now (table .entry)) (now (work .entry)) (now (result .entry))) (Replies r) (now (work .exit) ∷ now (result .exit) ∷ []) ⌝ }
 {
     replied_reading(index::read(table, work, result))
 }
@@ -54,9 +47,7 @@ pub extern "C" fn sirbolta_extract(
     work: &mut [u32],
     result: &mut [u8],
 ) -> Reply
-    ensures answer { λ r. ⌜ replyNumbers r ≡ numbersOf (outcome (extractService Unsigned (now (table .entry)) start count (length (now (work .entry))) (length (now (result .entry))))) ⌝ }
-    ensures result { λ _. ⌜ now (result .exit) ≡ resultAfter (extractService Unsigned (now (table .entry)) start count (length (now (work .entry))) (length (now (result .entry)))) (now (result .entry)) ⌝ }
-    ensures work { λ _. ⌜ now (work .exit) ≡ workAfter (extractService Unsigned (now (table .entry)) start count (length (now (work .entry))) (length (now (result .entry)))) (now (work .entry)) ⌝ }
+    ensures { λ r. ⌜ Serves (extractService sampleOrder (now (table .entry)) start count (now (work .entry)) (now (result .entry))) (Replies r) (now (work .exit) ∷ now (result .exit) ∷ []) ⌝ }
 {
     replied(index::extract(table, start, count, work, result))
 }
@@ -64,8 +55,7 @@ pub extern "C" fn sirbolta_extract(
 // Counts the occurrences of a pattern: `index::count`.
 #[no_mangle]
 pub extern "C" fn sirbolta_count(table: &[u32], pattern: &[u8], work: &mut [u32]) -> SearchReply
-    ensures answer { λ r. ⌜ searchNumbers r ≡ numbersOf (outcome (countService Unsigned (now (table .entry)) (now (pattern .entry)) (length (now (work .entry))))) ⌝ }
-    ensures work { λ _. ⌜ now (work .exit) ≡ workAfter (countService Unsigned (now (table .entry)) (now (pattern .entry)) (length (now (work .entry)))) (now (work .entry)) ⌝ }
+    ensures { λ r. ⌜ Serves (countService sampleOrder (now (table .entry)) (now (pattern .entry)) (now (work .entry))) (SearchReplies r) (now (work .exit) ∷ []) ⌝ }
 {
     replied_search(index::count(table, pattern, work))
 }
@@ -78,9 +68,7 @@ pub extern "C" fn sirbolta_locate(
     work: &mut [u32],
     result: &mut [u32],
 ) -> SearchReply
-    ensures answer { λ r. ⌜ searchNumbers r ≡ numbersOf (outcome (locateService Unsigned (now (table .entry)) (now (pattern .entry)) (length (now (work .entry))) (length (now (result .entry))))) ⌝ }
-    ensures result { λ _. ⌜ now (result .exit) ≡ resultAfter (locateService Unsigned (now (table .entry)) (now (pattern .entry)) (length (now (work .entry))) (length (now (result .entry)))) (now (result .entry)) ⌝ }
-    ensures work { λ _. ⌜ now (work .exit) ≡ workAfter (locateService Unsigned (now (table .entry)) (now (pattern .entry)) (length (now (work .entry))) (length (now (result .entry)))) (now (work .entry)) ⌝ }
+    ensures { λ r. ⌜ Serves (locateService sampleOrder (now (table .entry)) (now (pattern .entry)) (now (work .entry)) (now (result .entry))) (SearchReplies r) (now (work .exit) ∷ now (result .exit) ∷ []) ⌝ }
 {
     replied_search(index::locate(table, pattern, work, result))
 }
@@ -88,8 +76,7 @@ pub extern "C" fn sirbolta_locate(
 // Lists the live cuts of a pattern: `index::live_cuts`.
 #[no_mangle]
 pub extern "C" fn sirbolta_live_cuts(pattern: &[u8], result: &mut [u32]) -> Reply
-    ensures answer { λ r. ⌜ replyNumbers r ≡ numbersOf (outcome (cutsService Unsigned (now (pattern .entry)) (length (now (result .entry))))) ⌝ }
-    ensures result { λ _. ⌜ now (result .exit) ≡ resultAfter (cutsService Unsigned (now (pattern .entry)) (length (now (result .entry)))) (now (result .entry)) ⌝ }
+    ensures { λ r. ⌜ Serves (cutsService sampleOrder (now (pattern .entry)) (now (result .entry))) (Replies r) (now (result .exit) ∷ []) ⌝ }
 {
     replied(index::live_cuts(pattern, result))
 }

@@ -1,5 +1,3 @@
-pub mod Answers
-pub mod Outcomes
-pub mod Serving
 pub mod Fronts
-pub mod Delivering
+pub mod Patterns
+pub mod Readings

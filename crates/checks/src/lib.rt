@@ -3,13 +3,12 @@ use definitions::Answer;
 use definitions::Reading;
 use layout::WORK;
 ghost use mathlib.Core.Path.{_≡_};
-ghost use mathlib.Core.Bool.{cond, not};
 ghost use Prim.Native.Nat.{_≤_};
 ghost use lib.ListN.{length};
 ghost use Rattle.definitions.specs.Services.{cleared, textTooLong, patternChecks, workTooShort, resultTooShort, tableLength, rangePastEnd};
-ghost use Rattle.definitions.specs.declared.Answer.the-variants.{Done, Refused};
 ghost use Rattle.layout.specs.Layout.{WORK};
-ghost use Rattle.checks.specs.Checks.{checked, answered, readingOf};
+ghost use Rattle.lists.specs.Decisions.{checked, answered};
+ghost use Rattle.checks.specs.Checks.{readingOf};
 
 // Refusal 1, or the number of samples.
 pub fn text_fits(text: &[u8]) -> Answer
@@ -84,17 +83,6 @@ pub fn length_fits(n: usize) -> Answer
         return Answer::Refused(5, 0);
     }
     Answer::Done(n)
-}
-
-// Refusal 7 of a table that is not accepted, or its number of rules.
-pub fn accepts(accepted: bool, rules: usize) -> Answer
-    ensures { λ r. ⌜ r ≡ cond (not accepted) (Refused 7 0) (Done rules) ⌝ }
-{
-    if accepted {
-        Answer::Done(rules)
-    } else {
-        Answer::Refused(7, 0)
-    }
 }
 
 // An answer to reading: success has the chair number with it.

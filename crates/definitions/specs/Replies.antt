@@ -1,5 +1,6 @@
--- A reply's four numbers, each under its own name.
-use Rattle.definitions.specs.Services.{Numbers}
+-- A reply's four numbers, each under its own name, and the outcome that a reply stands for.
+use mathlib.Core.Path.{_≡_}
+use Rattle.definitions.specs.Services.{Numbers, Outcome, numbersOf}
 use Rattle.definitions.specs.declared.Reply.{Reply}
 use Rattle.definitions.specs.declared.SearchReply.{SearchReply}
 
@@ -8,3 +9,9 @@ replyNumbers r = record { number = r .number; place = r .place; count = r .count
 
 unfoldable pub searchNumbers : SearchReply → Numbers
 searchNumbers r = record { number = r .number; place = r .place; count = r .count; chair = r .chair }
+
+abbrev pub Replies : Reply → Outcome → Type 0
+Replies r o = replyNumbers r ≡ numbersOf o
+
+abbrev pub SearchReplies : SearchReply → Outcome → Type 0
+SearchReplies r o = searchNumbers r ≡ numbersOf o

@@ -1,12 +1,11 @@
 -- The samples of document 01 that are marked P, its live cuts, its two examples of a cut at a join, its table of `abab` for chair 40, tables that it says are
 -- foreign, some of its edges as outcomes of services, and what its program prints: by computation, under one claim.
-use Prim.Native.Nat.{ℕ, _+_}
+use Prim.Native.Nat.{ℕ, _+_, _-_}
 use mathlib.Core.Path.{_≡_, refl}
 use mathlib.Core.Bool.{Bool, true, false, cond, _&&_}
-use mathlib.Core.List.{List, [], _∷_, map}
+use mathlib.Core.List.{List, [], _∷_, _++_, map}
 use lib.ListN.{length, drop, getD, replicate}
 use lib.Dec.{eqb}
-use Rattle.definitions.specs.declared.Order.the-variants.{Unsigned}
 use Rattle.definitions.specs.declared.Answer.{Answer}
 use Rattle.definitions.specs.declared.Reading.{Reading}
 use Rattle.definitions.specs.declared.Reading.the-variants as reading
@@ -18,7 +17,7 @@ use Rattle.definitions.specs.Words.{every, below, least, placed, same, b
 use Rattle.definitions.specs.Grammar.{leftOf, rightOf, word, split, lyndonTree, indexOf, meet, visit, order, ruleOf, rulesOf}
 use Rattle.definitions.specs.Table.{rankOf, byteOf, numberOfRank, rankOfNumber, marked, wordOf, kindOf, numberOf, ruleWords, words, tableOf, badFirst, badSecond, badWord, stringOf, strings, ruleString, isPair, leftHalf, rightHalf, spelled, textOf, chairOf, isDrive, isChair, isTable}
 use Rattle.definitions.specs.Occurrences.{occurrences, notGreaterAtDifference, isLive, liveCuts, patternCuts, straddles, straddling, cutIn, cutAt}
-use Rattle.definitions.specs.Services.{Numbers, Outcome, numbersOf, readingOutcome, searchOutcome, Service, firstMet, outcome, outcomeOf, resultAfter, cleared, workAfter, tableChecks, patternChecks, buildService, checkService, readService, extractService, countService, locateService, cutsService}
+use Rattle.definitions.specs.Services.{Numbers, Outcome, numbersOf, readingOutcome, searchOutcome, Service, firstMet, outcome, outcomeOf, cleared, slicesAfter, sampleOrder, tableChecks, patternChecks, buildService, checkService, readService, extractService, countService, locateService, cutsService}
 use Rattle.definitions.specs.Replies.{replyNumbers, searchNumbers}
 use Rattle.definitions.specs.Programs.{digits, digitCount, decimal, line, named, decimalLines, refusedLine, printed, motifOf, driveOf, foundLines, motifOutput}
 
@@ -48,6 +47,10 @@ twoRules =
     0x00000000 ∷ 0xC0000028 ∷ 0x00000062 ∷ 0xC0000000 ∷ 0x00000063 ∷ 0xC0000000 ∷ 0x40000001 ∷ 0x80000002
     ∷ 0x40000000 ∷ 0x80000003 ∷ 0x40000001 ∷ 0x80000002 ∷ 0x40000004 ∷ 0x80000005 ∷ []
 
+-- work slices: enough words
+abbrev pub room : List ℕ
+room = replicate 16384 7
+
 -- what the program prints: `refused N`; and `rules R`, `found F` and positions
 abbrev pub refusedWith : ℕ → List ℕ
 refusedWith n = 114 ∷ 101 ∷ 102 ∷ 117 ∷ 115 ∷ 101 ∷ 100 ∷ 32 ∷ (48 + n) ∷ 10 ∷ []
@@ -68,9 +71,9 @@ pub data Sample : Type 0 where
   table : List ℕ → ℕ → List ℕ → Sample
   -- the service ends with this number, place, count and chair number
   ends : Service → ℕ → ℕ → ℕ → ℕ → Sample
-  -- the result slice, which held the first list, holds the second afterwards
-  leaves : Service → List ℕ → List ℕ → Sample
-  -- whether the work slice is cleared, its first 16,384 words alone
+  -- the slice that is lent last holds this afterwards
+  leaves : Service → List ℕ → Sample
+  -- whether the work slice of 16,385 words 7, which is lent first, is cleared, its first 16,384 words alone
   clears : Service → Bool → Sample
   -- the answer stands for this number, place and count
   answers : Answer → ℕ → ℕ → ℕ → Sample
@@ -85,6 +88,9 @@ pub data Sample : Type 0 where
   -- the input makes the program `motif` print this
   prints : List ℕ → List ℕ → Sample
 
+unfoldable pub last : List (List ℕ) → List ℕ
+last slices = getD slices (length slices - 1) []
+
 -- number, place, count and chair number, of an outcome too
 unfoldable pub four : Numbers → List ℕ
 four n = n .number ∷ n .place ∷ n .count ∷ n .chair ∷ []
@@ -94,23 +100,23 @@ parts r = four (numbersOf r)
 
 unfoldable pub holds : Sample → Bool
 holds (rules text n) =
-    let t = tableOf Unsigned text 40 in
-    eqb (length (rulesOf (marked Unsigned text))) n
+    let t = tableOf sampleOrder text 40 in
+    eqb (length (rulesOf (marked sampleOrder text))) n
     && (eqb (least (badWord t) (length t)) (length t)
-    && (isTable Unsigned t && (same (textOf Unsigned t) text && eqb (chairOf t) 40)))
+    && (isTable sampleOrder t && (same (textOf sampleOrder t) text && eqb (chairOf t) 40)))
 holds (finds text p places) = same (occurrences p text) places
-holds (cuts p places) = same (patternCuts Unsigned p) places
+holds (cuts p places) = same (patternCuts sampleOrder p) places
 holds (joins text r p places) =
-    let t = tableOf Unsigned text 40 in
-    let u = leftHalf Unsigned t r in
-    let v = rightHalf Unsigned t r in
-    let q = map (rankOf Unsigned) p in
-    isPair t r && (same (straddling q u v) places && same (cutAt q (patternCuts Unsigned p) u v) places)
-holds (table text chair t) = same (tableOf Unsigned text chair) t
+    let t = tableOf sampleOrder text 40 in
+    let u = leftHalf sampleOrder t r in
+    let v = rightHalf sampleOrder t r in
+    let q = map (rankOf sampleOrder) p in
+    isPair t r && (same (straddling q u v) places && same (cutAt q (patternCuts sampleOrder p) u v) places)
+holds (table text chair t) = same (tableOf sampleOrder text chair) t
 holds (ends s number place count chair) = same (parts (outcome s)) (number ∷ place ∷ count ∷ chair ∷ [])
-holds (leaves s before after) = same (resultAfter s before) after
+holds (leaves s after) = same (last (slicesAfter s)) after
 holds (clears s b) =
-    let w = workAfter s (replicate 16385 7) in
+    let w = getD (slicesAfter s) 0 [] in
     eqb (length w) 16385 && (eqb (getD w 0 7) (cond b 0 7) && (eqb (getD w 16383 7) (cond b 0 7) && eqb (getD w 16384 7) 7))
 holds (answers r number place count) = same (parts (outcomeOf r)) (number ∷ place ∷ count ∷ 0 ∷ [])
 holds (reads r number place count chair) = same (parts (readingOutcome r)) (number ∷ place ∷ count ∷ chair ∷ [])
@@ -118,7 +124,7 @@ holds (searches s number place count) = same (parts (searchOutcome s)) (number �
 holds (replies r number place count chair) = same (four (replyNumbers r)) (number ∷ place ∷ count ∷ chair ∷ [])
 holds (found r number place count chair) = same (four (searchNumbers r)) (number ∷ place ∷ count ∷ chair ∷ [])
 holds (spells n bytes) = same (decimal n) bytes
-holds (prints input output) = same (motifOutput Unsigned input) output
+holds (prints input output) = same (motifOutput sampleOrder input) output
 
 unfoldable pub all : List Sample → Bool
 all [] = true
@@ -153,54 +159,54 @@ samples =
     ∷ joins (a ∷ b ∷ b ∷ b ∷ []) 5 (b ∷ b ∷ b ∷ []) (1 ∷ [])
     ∷ joins (a ∷ b ∷ b ∷ b ∷ []) 5 (b ∷ []) []
     ∷ table abab 40 ofAbab
-    ∷ ends (buildService Unsigned abab 40 16384 12) 0 0 12 0
-    ∷ ends (buildService Unsigned abab 40 16384 11) 9 12 0 0
-    ∷ ends (checkService Unsigned ofAbab 16384) 0 0 6 0
-    ∷ ends (checkService Unsigned [] 16383) 4 0 0 0
-    ∷ ends (checkService Unsigned (drop 1 ofAbab) 16384) 5 0 0 0
-    ∷ ends (checkService Unsigned (drop 3 ofAbab) 16384) 5 0 0 0
-    ∷ ends (checkService Unsigned (drop 2 ofAbab) 16384) 6 5 0 0
-    ∷ ends (checkService Unsigned (0x101 ∷ 0xC0000000 ∷ []) 16384) 6 0 0 0
-    ∷ ends (checkService Unsigned (0x100 ∷ 0xC0000000 ∷ []) 16384) 7 0 0 0
-    ∷ ends (checkService Unsigned (0x000 ∷ 0xC0010000 ∷ []) 16384) 6 1 0 0
-    ∷ ends (checkService Unsigned (0x000 ∷ 0xC000FFFF ∷ []) 16384) 0 0 1 0
-    ∷ ends (checkService Unsigned (0x000 ∷ 0xC0000000 ∷ 0x40000001 ∷ 0x80000000 ∷ []) 16384) 6 2 0 0
-    ∷ ends (checkService Unsigned (0x000 ∷ 0xC0000000 ∷ 0x40000000 ∷ 0x80000001 ∷ []) 16384) 6 3 0 0
-    ∷ ends (checkService Unsigned (0x000 ∷ 0xC0000000 ∷ 0x00000062 ∷ 0xC0000001 ∷ []) 16384) 6 3 0 0
-    ∷ ends (checkService Unsigned (0x000 ∷ 0x80000000 ∷ []) 16384) 6 1 0 0
-    ∷ ends (checkService Unsigned (0x000 ∷ 0xC0000000 ∷ 0x80000000 ∷ 0x80000000 ∷ []) 16384) 6 2 0 0
-    ∷ ends (checkService Unsigned (0x000 ∷ 0xC0000000 ∷ 0x40000000 ∷ 0x40000000 ∷ []) 16384) 6 3 0 0
-    ∷ ends (checkService Unsigned (0x000 ∷ 0xC0000000 ∷ 0x40000000 ∷ 0xC0000000 ∷ []) 16384) 6 3 0 0
-    ∷ ends (checkService Unsigned otherOrder 16384) 7 0 0 0
-    ∷ ends (checkService Unsigned twoRules 16384) 7 0 0 0
-    ∷ ends (readService Unsigned ofAbab 16384 4) 0 0 4 40
-    ∷ ends (readService Unsigned ofAbab 16384 3) 9 4 0 0
-    ∷ ends (readService Unsigned twoRules 16384 4) 7 0 0 0
-    ∷ ends (extractService Unsigned twoRules 0 1 16384 1) 7 0 0 0
-    ∷ ends (extractService Unsigned ofAbab 2 5 16384 1) 8 0 0 0
-    ∷ ends (extractService Unsigned ofAbab 4 0 16384 0) 0 0 0 0
-    ∷ ends (extractService Unsigned ofAbab 4 1 16384 0) 8 0 0 0
-    ∷ ends (extractService Unsigned ofAbab 18446744073709551615 2 16384 2) 8 0 0 0
-    ∷ ends (countService Unsigned ofAbab (b ∷ a ∷ []) 16384) 0 0 1 0
-    ∷ ends (countService Unsigned [] [] 0) 2 0 0 0
-    ∷ ends (countService Unsigned twoRules (a ∷ []) 16384) 7 0 0 0
-    ∷ ends (locateService Unsigned [] [] 0 0) 2 0 0 0
-    ∷ ends (locateService Unsigned twoRules (a ∷ []) 16384 2) 7 0 0 0
-    ∷ ends (cutsService Unsigned [] 0) 2 0 0 0
-    ∷ ends (locateService Unsigned (tableOf Unsigned (a ∷ a ∷ a ∷ a ∷ []) 0) (a ∷ a ∷ []) 16384 2) 9 3 0 0
-    ∷ ends (cutsService Unsigned (a ∷ a ∷ b ∷ a ∷ []) 1) 9 2 0 0
-    ∷ leaves (extractService Unsigned ofAbab 1 2 16384 3) (7 ∷ 7 ∷ 7 ∷ []) (b ∷ a ∷ 7 ∷ [])
-    ∷ leaves (locateService Unsigned ofAbab (a ∷ b ∷ []) 16384 1) (7 ∷ []) (7 ∷ [])
-    ∷ leaves (locateService Unsigned ofAbab (a ∷ b ∷ []) 16384 3) (7 ∷ 7 ∷ 7 ∷ []) (0 ∷ 2 ∷ 7 ∷ [])
-    ∷ leaves (cutsService Unsigned (a ∷ a ∷ b ∷ a ∷ []) 3) (7 ∷ 7 ∷ 7 ∷ []) (1 ∷ 3 ∷ 7 ∷ [])
-    ∷ clears (checkService Unsigned ofAbab 16385) true
-    ∷ clears (checkService Unsigned twoRules 16385) true
-    ∷ clears (checkService Unsigned (drop 2 ofAbab) 16385) false
-    ∷ clears (checkService Unsigned [] 16385) false
-    ∷ clears (checkService Unsigned ofAbab 16383) false
-    ∷ clears (countService Unsigned ofAbab [] 16385) false
-    ∷ clears (extractService Unsigned ofAbab 4 1 16385 0) true
-    ∷ clears (buildService Unsigned abab 40 16385 11) true
+    ∷ ends (buildService sampleOrder abab 40 room (replicate 12 7)) 0 0 12 0
+    ∷ ends (buildService sampleOrder abab 40 room (replicate 11 7)) 9 12 0 0
+    ∷ ends (checkService sampleOrder ofAbab room) 0 0 6 0
+    ∷ ends (checkService sampleOrder [] (drop 1 room)) 4 0 0 0
+    ∷ ends (checkService sampleOrder (drop 1 ofAbab) room) 5 0 0 0
+    ∷ ends (checkService sampleOrder (drop 3 ofAbab) room) 5 0 0 0
+    ∷ ends (checkService sampleOrder (drop 2 ofAbab) room) 6 5 0 0
+    ∷ ends (checkService sampleOrder (0x101 ∷ 0xC0000000 ∷ []) room) 6 0 0 0
+    ∷ ends (checkService sampleOrder (0x100 ∷ 0xC0000000 ∷ []) room) 7 0 0 0
+    ∷ ends (checkService sampleOrder (0x000 ∷ 0xC0010000 ∷ []) room) 6 1 0 0
+    ∷ ends (checkService sampleOrder (0x000 ∷ 0xC000FFFF ∷ []) room) 0 0 1 0
+    ∷ ends (checkService sampleOrder (0x000 ∷ 0xC0000000 ∷ 0x40000001 ∷ 0x80000000 ∷ []) room) 6 2 0 0
+    ∷ ends (checkService sampleOrder (0x000 ∷ 0xC0000000 ∷ 0x40000000 ∷ 0x80000001 ∷ []) room) 6 3 0 0
+    ∷ ends (checkService sampleOrder (0x000 ∷ 0xC0000000 ∷ 0x00000062 ∷ 0xC0000001 ∷ []) room) 6 3 0 0
+    ∷ ends (checkService sampleOrder (0x000 ∷ 0x80000000 ∷ []) room) 6 1 0 0
+    ∷ ends (checkService sampleOrder (0x000 ∷ 0xC0000000 ∷ 0x80000000 ∷ 0x80000000 ∷ []) room) 6 2 0 0
+    ∷ ends (checkService sampleOrder (0x000 ∷ 0xC0000000 ∷ 0x40000000 ∷ 0x40000000 ∷ []) room) 6 3 0 0
+    ∷ ends (checkService sampleOrder (0x000 ∷ 0xC0000000 ∷ 0x40000000 ∷ 0xC0000000 ∷ []) room) 6 3 0 0
+    ∷ ends (checkService sampleOrder otherOrder room) 7 0 0 0
+    ∷ ends (checkService sampleOrder twoRules room) 7 0 0 0
+    ∷ ends (readService sampleOrder ofAbab room (replicate 4 7)) 0 0 4 40
+    ∷ ends (readService sampleOrder ofAbab room (replicate 3 7)) 9 4 0 0
+    ∷ ends (readService sampleOrder twoRules room (replicate 4 7)) 7 0 0 0
+    ∷ ends (extractService sampleOrder twoRules 0 1 room (replicate 1 7)) 7 0 0 0
+    ∷ ends (extractService sampleOrder ofAbab 2 5 room (replicate 1 7)) 8 0 0 0
+    ∷ ends (extractService sampleOrder ofAbab 4 0 room []) 0 0 0 0
+    ∷ ends (extractService sampleOrder ofAbab 4 1 room []) 8 0 0 0
+    ∷ ends (extractService sampleOrder ofAbab 18446744073709551615 2 room (replicate 2 7)) 8 0 0 0
+    ∷ ends (countService sampleOrder ofAbab (b ∷ a ∷ []) room) 0 0 1 0
+    ∷ ends (countService sampleOrder [] [] []) 2 0 0 0
+    ∷ ends (countService sampleOrder twoRules (a ∷ []) room) 7 0 0 0
+    ∷ ends (locateService sampleOrder [] [] [] []) 2 0 0 0
+    ∷ ends (locateService sampleOrder twoRules (a ∷ []) room (replicate 2 7)) 7 0 0 0
+    ∷ ends (cutsService sampleOrder [] []) 2 0 0 0
+    ∷ ends (locateService sampleOrder (tableOf sampleOrder (a ∷ a ∷ a ∷ a ∷ []) 0) (a ∷ a ∷ []) room (replicate 2 7)) 9 3 0 0
+    ∷ ends (cutsService sampleOrder (a ∷ a ∷ b ∷ a ∷ []) (replicate 1 7)) 9 2 0 0
+    ∷ leaves (extractService sampleOrder ofAbab 1 2 room (replicate 3 7)) (b ∷ a ∷ 7 ∷ [])
+    ∷ leaves (locateService sampleOrder ofAbab (a ∷ b ∷ []) room (replicate 1 7)) (7 ∷ [])
+    ∷ leaves (locateService sampleOrder ofAbab (a ∷ b ∷ []) room (replicate 3 7)) (0 ∷ 2 ∷ 7 ∷ [])
+    ∷ leaves (cutsService sampleOrder (a ∷ a ∷ b ∷ a ∷ []) (replicate 3 7)) (1 ∷ 3 ∷ 7 ∷ [])
+    ∷ clears (checkService sampleOrder ofAbab (room ++ 7 ∷ [])) true
+    ∷ clears (checkService sampleOrder twoRules (room ++ 7 ∷ [])) true
+    ∷ clears (checkService sampleOrder (drop 2 ofAbab) (room ++ 7 ∷ [])) false
+    ∷ clears (checkService sampleOrder [] (room ++ 7 ∷ [])) false
+    ∷ leaves (checkService sampleOrder ofAbab (7 ∷ [])) (7 ∷ [])
+    ∷ clears (countService sampleOrder ofAbab [] (room ++ 7 ∷ [])) false
+    ∷ clears (extractService sampleOrder ofAbab 4 1 (room ++ 7 ∷ []) []) true
+    ∷ clears (buildService sampleOrder abab 40 (room ++ 7 ∷ []) (replicate 11 7)) true
     ∷ answers (Done 5) 0 0 5
     ∷ answers (Refused 6 5) 6 5 0
     ∷ reads (reading.Done 5 40) 0 0 5 40
@@ -224,19 +230,19 @@ samples =
     ∷ prints (a ∷ 10 ∷ 10 ∷ []) (foundIn 3 0 [])
     ∷ prints (replicate 4096 a) (refusedWith 1)
     ∷ prints (replicate 4095 a) (refusedWith 3)
-    ∷ ends (buildService Unsigned (replicate 2048 a) 40 16383 0) 1 0 0 0
-    ∷ ends (buildService Unsigned (replicate 2047 a) 40 16383 0) 4 0 0 0
-    ∷ ends (countService Unsigned [] (replicate 2048 a) 0) 3 0 0 0
-    ∷ ends (countService Unsigned [] (replicate 2047 a) 0) 4 0 0 0
-    ∷ ends (locateService Unsigned [] (replicate 2048 a) 0 0) 3 0 0 0
-    ∷ ends (cutsService Unsigned (replicate 2048 a) 0) 3 0 0 0
-    ∷ clears (buildService Unsigned (replicate 2048 a) 40 16385 0) false
-    ∷ clears (countService Unsigned [] (replicate 2048 a) 16385) false
-    ∷ ends (checkService Unsigned (replicate 4610 0) 16384) 5 0 0 0
-    ∷ ends (checkService Unsigned (replicate 4608 0) 16384) 6 1 0 0
+    ∷ ends (buildService sampleOrder (replicate 2048 a) 40 (drop 1 room) []) 1 0 0 0
+    ∷ ends (buildService sampleOrder (replicate 2047 a) 40 (drop 1 room) []) 4 0 0 0
+    ∷ ends (countService sampleOrder [] (replicate 2048 a) []) 3 0 0 0
+    ∷ ends (countService sampleOrder [] (replicate 2047 a) []) 4 0 0 0
+    ∷ ends (locateService sampleOrder [] (replicate 2048 a) [] []) 3 0 0 0
+    ∷ ends (cutsService sampleOrder (replicate 2048 a) []) 3 0 0 0
+    ∷ clears (buildService sampleOrder (replicate 2048 a) 40 (room ++ 7 ∷ []) []) false
+    ∷ clears (countService sampleOrder [] (replicate 2048 a) (room ++ 7 ∷ [])) false
+    ∷ ends (checkService sampleOrder (replicate 4610 0) room) 5 0 0 0
+    ∷ ends (checkService sampleOrder (replicate 4608 0) room) 6 1 0 0
     ∷ []
 
 -- every sample holds
 pub samples-hold : all samples ≡ true
-unfolding holds all samples four parts numbersOf readingOutcome searchOutcome replyNumbers searchNumbers every below least placed same begins lexlt lyndon cutOf leftOf rightOf word split lyndonTree indexOf meet visit order ruleOf rulesOf rankOf byteOf numberOfRank rankOfNumber marked wordOf kindOf numberOf ruleWords words tableOf badFirst badSecond badWord stringOf strings ruleString isPair leftHalf rightHalf spelled textOf chairOf isDrive isChair isTable occurrences notGreaterAtDifference isLive liveCuts patternCuts straddles straddling cutIn cutAt firstMet outcome outcomeOf resultAfter cleared workAfter tableChecks patternChecks buildService checkService readService extractService countService locateService cutsService digits digitCount decimal line named decimalLines refusedLine printed motifOf driveOf foundLines motifOutput
+unfolding holds all samples four parts numbersOf readingOutcome searchOutcome replyNumbers searchNumbers every below least placed same begins lexlt lyndon cutOf leftOf rightOf word split lyndonTree indexOf meet visit order ruleOf rulesOf rankOf byteOf numberOfRank rankOfNumber marked wordOf kindOf numberOf ruleWords words tableOf badFirst badSecond badWord stringOf strings ruleString isPair leftHalf rightHalf spelled textOf chairOf isDrive isChair isTable occurrences notGreaterAtDifference isLive liveCuts patternCuts straddles straddling cutIn cutAt firstMet outcome outcomeOf cleared slicesAfter last tableChecks patternChecks buildService checkService readService extractService countService locateService cutsService digits digitCount decimal line named decimalLines refusedLine printed motifOf driveOf foundLines motifOutput
 samples-hold = refl

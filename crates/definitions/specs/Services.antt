@@ -1,11 +1,13 @@
 -- What each service answers and leaves in the slices lent to it (document 01, "When a request is turned down").
--- A service's checks are an ordered list; the first that is met decides number, place and what becomes of the work slice.
+-- A service's checks are an ordered list; the first that is met decides number, place and what becomes of each lent slice.
 use Prim.Native.Nat.{ℕ, _+_, _%_}
 use mathlib.Core.Bool.{Bool, true, false, cond, not, _||_}
-use mathlib.Core.List.{List, [], _∷_, _++_}
+use mathlib.Core.Path.{_≡_}
+use mathlib.Core.List.{List, [], _∷_, _++_, map}
 use lib.ListN.{length, take, drop, replicate}
 use lib.Dec.{ltb, eqb}
 use Rattle.definitions.specs.declared.Order.{Order}
+use Rattle.definitions.specs.declared.Order.the-variants.{Unsigned}
 use Rattle.definitions.specs.declared.Answer.{Answer}
 use Rattle.definitions.specs.declared.Answer.the-variants as answer
 use Rattle.definitions.specs.declared.Reading.{Reading}
@@ -58,32 +60,58 @@ pub record Check : Type 0 where
 abbrev pub check : Bool → ℕ → ℕ → Bool → Check
 check met number place clears = record { met = met; number = number; place = place; clears = clears }
 
--- a service: its checks in order, and where none is met what it answers and writes
-pub record Service : Type 0 where
-  pub checks : List Check
-  pub success : Outcome
-  pub written : List ℕ
-
 -- the first check that is met decides
 unfoldable pub firstMet {ℓ} : {A : Type ℓ} → List Check → (Check → A) → A → A
 firstMet [] refusal success = success
 firstMet (c ∷ checks) refusal success = cond (c .met) (refusal c) (firstMet checks refusal success)
 
--- what the service answers
-unfoldable pub outcome : Service → Outcome
-outcome s = firstMet (s .checks) (λ c. refused (c .number) (c .place)) (s .success)
-
--- the result slice afterwards: a refusal leaves it as it is, success writes at its front
-unfoldable pub resultAfter : Service → List ℕ → List ℕ
-resultAfter s result = firstMet (s .checks) (λ c. result) (placed (s .written) result)
-
 -- the work slice with its first 16,384 words zero
 unfoldable pub cleared : List ℕ → List ℕ
 cleared work = placed (replicate 16384 0) work
 
--- the work slice afterwards: as it was or cleared, by the check that is met; cleared after success
-unfoldable pub workAfter : Service → List ℕ → List ℕ
-workAfter s work = firstMet (s .checks) (λ c. cond (c .clears) (cleared work) work) (cleared work)
+-- ---- services
+
+-- a slice that is lent to a service: what it holds afterwards where a check refuses, and where the service is done
+pub record Lent : Type 0 where
+  pub ifRefused : Check → List ℕ
+  pub ifDone : List ℕ
+
+-- a result slice: a refusal leaves it as it is, success writes l at its front
+abbrev pub resultSlice : List ℕ → List ℕ → Lent
+resultSlice l result = record { ifRefused = λ c. result; ifDone = placed l result }
+
+-- a work slice: as it was or cleared, by the check that decides; cleared after success
+abbrev pub workSlice : List ℕ → Lent
+workSlice work = record { ifRefused = λ c. cond (c .clears) (cleared work) work; ifDone = cleared work }
+
+-- a service: its checks in order, what it answers where none is met, and the slices that are lent to it, a work slice first
+pub record Service : Type 0 where
+  pub checks : List Check
+  pub success : Outcome
+  pub lent : List Lent
+
+-- what the service answers
+unfoldable pub outcome : Service → Outcome
+outcome s = firstMet (s .checks) (λ c. refused (c .number) (c .place)) (s .success)
+
+-- what the lent slices hold afterwards
+unfoldable pub slicesAfter : Service → List (List ℕ)
+slicesAfter s = map (λ x. firstMet (s .checks) (x .ifRefused) (x .ifDone)) (s .lent)
+
+-- THE PROMISE OF A CALL: what it answers stands for the service's outcome, and the lent slices then hold what the service leaves there
+pub record Serves (s : Service) (answers : Outcome → Type 0) (held : List (List ℕ)) : Type 0 where
+  pub answer : answers (outcome s)
+  pub slices : held ≡ slicesAfter s
+
+-- what each kind of answer stands for
+abbrev pub Answers : Answer → Outcome → Type 0
+Answers r o = outcomeOf r ≡ o
+
+abbrev pub Reads : Reading → Outcome → Type 0
+Reads r o = readingOutcome r ≡ o
+
+abbrev pub Searches : Search → Outcome → Type 0
+Searches r o = searchOutcome r ≡ o
 
 -- ---- the checks: when met, number, place, whether the work slice is cleared
 
@@ -96,6 +124,7 @@ patternEmpty p = check (eqb (length p) 0) 2 0 false
 abbrev pub patternTooLong : List ℕ → Check
 patternTooLong p = check (ltb 2047 (length p)) 3 0 false
 
+-- of a work slice of n words
 abbrev pub workTooShort : ℕ → Check
 workTooShort n = check (ltb n 16384) 4 0 false
 
@@ -113,53 +142,61 @@ notATable o t = check (not (isTable o t)) 7 0 true
 abbrev pub rangePastEnd : ℕ → ℕ → ℕ → Check
 rangePastEnd n start count = check (ltb n (start + count)) 8 0 true
 
+-- of a result slice of n entries
 abbrev pub resultTooShort : ℕ → ℕ → Check
 resultTooShort needed n = check (ltb n needed) 9 needed true
 
--- ---- the services: t is a table, n and m are the lengths of the work slice and of the result slice
+-- ---- the services: t is a table, work and result are what the lent slices hold before
 
--- what a table that is handed over must pass
+-- the order of samples that the services speak of
+abbrev pub sampleOrder : Order
+sampleOrder = Unsigned
+
+-- what a table that is handed over must pass, with n words of work
 unfoldable pub tableChecks : Order → List ℕ → ℕ → List Check
 tableChecks o t n = workTooShort n ∷ tableLength (length t) ∷ hasBadWord t ∷ notATable o t ∷ []
 
 unfoldable pub patternChecks : List ℕ → List Check
 patternChecks p = patternEmpty p ∷ patternTooLong p ∷ []
 
--- success gives the number of entries written
-abbrev pub writes : List Check → ℕ → List ℕ → ℕ → Service
-writes checks m l chair =
-    record { checks = checks ++ (resultTooShort (length l) m ∷ []); success = done (length l) chair; written = l }
+-- what a service that answers alone gives; one that writes a list gives the number of its entries, and the chair number
+abbrev pub gives : List Check → Outcome → Service
+gives checks success = record { checks = checks; success = success; lent = [] }
+
+abbrev pub writes : List Check → List ℕ → ℕ → List ℕ → Service
+writes checks l chair result =
+    record { checks = checks ++ (resultTooShort (length l) (length result) ∷ []); success = done (length l) chair; lent = resultSlice l result ∷ [] }
+
+-- the same with a work slice, which is lent first
+abbrev pub working : List ℕ → Service → Service
+working work s = record { checks = s .checks; success = s .success; lent = workSlice work ∷ s .lent }
 
 -- build the table of a drive and a chair number
-unfoldable pub buildService : Order → List ℕ → ℕ → ℕ → ℕ → Service
-buildService o text chair n m = writes (textTooLong text ∷ workTooShort n ∷ []) m (tableOf o text chair) 0
+unfoldable pub buildService : Order → List ℕ → ℕ → List ℕ → List ℕ → Service
+buildService o text chair work result = working work (writes (textTooLong text ∷ workTooShort (length work) ∷ []) (tableOf o text chair) 0 result)
 
 -- check a table: success gives the number of rules
-unfoldable pub checkService : Order → List ℕ → ℕ → Service
-checkService o t n = record { checks = tableChecks o t n; success = done (ruleCount t) 0; written = [] }
+unfoldable pub checkService : Order → List ℕ → List ℕ → Service
+checkService o t work = working work (gives (tableChecks o t (length work)) (done (ruleCount t) 0))
 
 -- read a table back
-unfoldable pub readService : Order → List ℕ → ℕ → ℕ → Service
-readService o t n m = writes (tableChecks o t n) m (textOf o t) (chairOf t)
+unfoldable pub readService : Order → List ℕ → List ℕ → List ℕ → Service
+readService o t work result = working work (writes (tableChecks o t (length work)) (textOf o t) (chairOf t) result)
 
 -- read the part of a drive that begins at start and has count samples
-unfoldable pub extractService : Order → List ℕ → ℕ → ℕ → ℕ → ℕ → Service
-extractService o t start count n m =
-    writes (tableChecks o t n ++ (rangePastEnd (length (textOf o t)) start count ∷ [])) m (take count (drop start (textOf o t))) 0
+unfoldable pub extractService : Order → List ℕ → ℕ → ℕ → List ℕ → List ℕ → Service
+extractService o t start count work result =
+    let text = textOf o t in
+    working work (writes (tableChecks o t (length work) ++ (rangePastEnd (length text) start count ∷ [])) (take count (drop start text)) 0 result)
 
 -- count the occurrences of a pattern
-unfoldable pub countService : Order → List ℕ → List ℕ → ℕ → Service
-countService o t p n =
-    record {
-      checks = patternChecks p ++ tableChecks o t n;
-      success = done (length (occurrences p (textOf o t))) 0;
-      written = [];
-    }
+unfoldable pub countService : Order → List ℕ → List ℕ → List ℕ → Service
+countService o t p work = working work (gives (patternChecks p ++ tableChecks o t (length work)) (done (length (occurrences p (textOf o t))) 0))
 
 -- list the occurrences of a pattern
-unfoldable pub locateService : Order → List ℕ → List ℕ → ℕ → ℕ → Service
-locateService o t p n m = writes (patternChecks p ++ tableChecks o t n) m (occurrences p (textOf o t)) 0
+unfoldable pub locateService : Order → List ℕ → List ℕ → List ℕ → List ℕ → Service
+locateService o t p work result = working work (writes (patternChecks p ++ tableChecks o t (length work)) (occurrences p (textOf o t)) 0 result)
 
 -- list the live cuts of a pattern
-unfoldable pub cutsService : Order → List ℕ → ℕ → Service
-cutsService o p m = writes (patternChecks p) m (patternCuts o p) 0
+unfoldable pub cutsService : Order → List ℕ → List ℕ → Service
+cutsService o p result = writes (patternChecks p) (patternCuts o p) 0 result

@@ -1,2 +1,2 @@
-pub mod Parts
+pub mod Writing
 pub mod Counting

@@ -9,6 +9,8 @@ use Rattle.definitions.specs.Table.{ruleString, spelled, ruleCount}
 use Rattle.lists.specs.Parts.{part}
 use Rattle.lyndon.specs.Shapes.{Shaped}
 use Rattle.layout.specs.Layout.{STACK, WORK}
+use Rattle.expansion.specs.declared.Expansion.{Expansion}
+use Rattle.expansion.specs.declared.Expansion.the-variants.{Ranks, TooLong}
 use Rattle.expansion.specs.declared.Turn.{Turn}
 use Rattle.expansion.specs.declared.Turn.the-variants.{Next, Whole}
 
@@ -31,21 +33,13 @@ pub record Expandable (o : Order) (t w : List ℕ) (rule written pending : ℕ) 
   pub room : written + pending < 2048
   pub expanding : Expanding o t w rule written pending
 
--- what follows a symbol, and a pair
-unfoldable pub afterSymbol : List ℕ → ℕ → ℕ → Turn
-afterSymbol w written zero = Whole (written + 1)
-afterSymbol w written (suc d) = Next (record { rule = getD w (STACK + d) 0; written = written + 1; pending = d })
-
-unfoldable pub afterPair : ℕ → ℕ → ℕ → Turn
-afterPair left written pending = Next (record { rule = left; written = written; pending = pending + 1 })
-
 -- the walk has gone on, one nearer to its end; or it is at its end
 abbrev pub Stepped : Order → List ℕ → List ℕ → ℕ → ℕ → Turn → Type 0
 Stepped o t w written pending (Next p) =
     Expanding o t w (p .rule) (p .written) (p .pending) × (p .written + p .written + p .pending ≡ suc (written + written + pending)) × (p .written + p .pending ≤ 2048)
 Stepped o t w written pending (Whole n) = (0 < n) × (n ≤ 2048) × (part 0 n w ≡ spelled o t)
 
--- r symbols are written and are all that the table spells; 0: it spells more than 2,048
-pub record Expanded (o : Order) (t w : List ℕ) (r : ℕ) : Type 0 where
-  pub whole : 0 < r → (r ≤ 2048) × (part 0 r w ≡ spelled o t)
-  pub long : r ≡ 0 → 2048 < length (spelled o t)
+-- so many symbols are written and are all that the table spells; or it spells more than 2,048
+abbrev pub Expanded : Order → List ℕ → List ℕ → Expansion → Type 0
+Expanded o t w (Ranks n) = (0 < n) × (n ≤ 2048) × (part 0 n w ≡ spelled o t)
+Expanded o t w TooLong = 2048 < length (spelled o t)

@@ -6,8 +6,8 @@ use Prim.Native.Nat.{ℕ, _+_, _*_, _≤_, _<_}
 use native.Mathlib.Omega.{arith}
 use native.Mathlib.Nat.{zero-add, sub-zero}
 use native.Mathlib.Numerals.{add-one}
-use lib.ListN.{length, take, drop, getD, set, replicate, length-take, length-drop, length-append, length-replicate, length-set, getD-replicate, List·getD-append}
-use lib.Seq.{take-append-seam, getD-append-add, length-take-le, take-take}
+use lib.ListN.{length, take, drop, getD, set, replicate, length-take, length-drop, length-replicate, length-set, getD-replicate, List·getD-append}
+use lib.Seq.{getD-append-add, length-take-le}
 use Rattle.definitions.specs.declared.Order.{Order}
 use Rattle.definitions.specs.Grammar.{order, Rule, symbol, rulesOf}
 use Rattle.definitions.specs.Table.{marked, words, wordOf, tableOf}
@@ -15,7 +15,7 @@ use Rattle.definitions.specs.Words.{placed}
 use Rattle.lists.specs.Lists.{placed-length, placed-front}
 use Rattle.lists.specs.Numbers.{split-le}
 use Rattle.lists.specs.Members.{at-in}
-use Rattle.lists.specs.Parts.{part, part-length, part-at, part-set, part-set-behind, part-agree}
+use Rattle.lists.specs.Parts.{part, part-length, part-at, part-set, part-set-behind, part-agree, lent-length, lent-before}
 use Rattle.lyndon.specs.Forest.{forest, longests}
 use Rattle.lyndon.specs.Ranks.{slice-bytes, marked-lyndon, marked-symbols, marked-length}
 use Rattle.lyndon.specs.Sequence.{order-filled}
@@ -46,20 +46,20 @@ module _ (w l : List ℕ) (long : WORK ≤ length w) (e : l ≡ replicate (lengt
   zeros : l ≡ replicate 1024 0
   zeros = e ∙ ap (λ (n : ℕ). replicate n 0) size
 
+  count : length l ≡ 1024
+  count = ap length zeros ∙ length-replicate {A = ℕ} 1024 0
+
   cleared-below : take LINKS (take LINKS w ++ (l ++ drop 1024 (drop LINKS w))) ≡ take LINKS w
-  cleared-below = ap (λ (n : ℕ). take n (replaced w l)) (sym front) ∙ take-append-seam (take LINKS w) (l ++ drop 1024 (drop LINKS w))
+  cleared-below = lent-before w l LINKS 1024 (omega arith) count LINKS (omega arith)
 
   pub cleared-stays : Below w (take LINKS w ++ (l ++ drop 1024 (drop LINKS w)))
-  cleared-stays = sym (take-take STACK LINKS (replaced w l) (omega arith)) ∙ ap (take STACK) cleared-below ∙ take-take STACK LINKS w (omega arith)
-
-  cleared-length : length (take LINKS w ++ (l ++ drop 1024 (drop LINKS w))) ≡ length w
-  cleared-length = simp (length-append, length-drop, front) (omega (arith, ap length zeros, length-replicate {A = ℕ} 1024 0))
+  cleared-stays = lent-before w l LINKS 1024 (omega arith) count STACK (omega arith)
 
   pub cleared-buckets : (b : ℕ) → b < 1024 → getD (take LINKS w ++ (l ++ drop 1024 (drop LINKS w))) (LINKS + b) 0 ≡ 0
   cleared-buckets b h =
       ap (λ (n : ℕ). getD (replaced w l) (n + b) 0) (sym front)
       ∙ getD-append-add (take LINKS w) (l ++ drop 1024 (drop LINKS w)) b 0
-      ∙ List·getD-append l (drop 1024 (drop LINKS w)) 0 b (omega (arith, ap length zeros, length-replicate {A = ℕ} 1024 0))
+      ∙ List·getD-append l (drop 1024 (drop LINKS w)) 0 b (omega (arith, count))
       ∙ ap (λ (x : List ℕ). getD x b 0) zeros
       ∙ getD-replicate 1024 b 0 0 h
 
@@ -75,7 +75,7 @@ module _ (w l : List ℕ) (long : WORK ≤ length w) (e : l ≡ replicate (lengt
   cleared-numbers n k =
       record {
         short = k .short;
-        long = omega (arith, cleared-length);
+        long = omega (arith, lent-length w l LINKS 1024 (omega arith) count);
         ranks = λ i h. rw (below-at w (replaced w l) i (omega (arith, k .short)) cleared-stays) (k .ranks i h);
         enough = subst (Enough 0) (sym (part-agree LINKS CLOSINGS n w (replaced w l) cleared-below (omega (arith, k .short)))) (k .enough);
         room = rw (cleared-numbered n (k .short)) (k .room);

@@ -1,6 +1,6 @@
--- The cut at a join: where the pattern stands across it at a cut, that is the one straddling occurrence (`cut-hit`); where it does so at no
--- cut that is tried and fits, there is none (`cut-miss`).
-use mathlib.Core.Path.{_≡_, refl, sym, _∙_, ap, subst}
+-- The cut at a join: where the pattern stands across it at a cut, that is the one straddling occurrence (`join-hit`); where it does so at
+-- no cut that is tried and fits, there is none (`join-miss`).
+use mathlib.Core.Path.{_≡_, refl, sym, _∙_, ap, ap₂, subst}
 use mathlib.Core.Bool.{true, _&&_}
 use mathlib.Core.List.{List, [], _∷_, _++_, map, List·Memᴰ as In, List·Memᴰ·not-nil as in-nil, List·Memᴰ·eq-of-singleton as in-one}
 use Prim.Native.Nat.{ℕ, zero, suc, _+_, _-_, _≤_, _<_, min}
@@ -41,74 +41,6 @@ unfolding cutPlace
 cut-place-size n zero = refl
 cut-place-size n (suc c) = omega arith
 
--- ---- two strings that stand one behind the other in w, and a pattern
-
-module _ (p w : List ℕ) (at left right : ℕ) (fits : at + left + right ≤ length w) where
-  whole : part at left w ++ part (at + left) right w ≡ part at (left + right) w
-  whole = sym (part-append at left right w)
-
-  left-size : length (part at left w) ≡ left
-  left-size = part-length at left w (omega arith)
-
-  whole-size : length (part at left w ++ part (at + left) right w) ≡ left + right
-  whole-size = length-append (part at left w) (part (at + left) right w) ∙ omega (arith, left-size, part-length (at + left) right w (omega arith))
-
-  taken : (i k : ℕ) → i + length p ≤ left + right → k ≡ at + i → take (length p) (drop i (part at left w ++ part (at + left) right w)) ≡ part k (length p) w
-  unfolding part
-  taken i k h e =
-      ap (λ (l : List ℕ). take (length p) (drop i l)) whole
-      ∙ part-part at (left + right) i (length p) w h
-      ∙ ap (λ (j : ℕ). part j (length p) w) (sym e)
-
-  cut-hit : (c : ℕ) → 0 < c → c < length p → c ≤ left → length p ≤ c + right → part (at + left - c) (length p) w ≡ p
-      → JoinCut p (part at left w) (part (at + left) right w) c
-  unfolding straddling straddles
-  cut-hit c z k l m e =
-      record {
-        small = k;
-        inside = omega (arith, left-size);
-        place = λ d. only-member (straddling p u v) (left - c) inside (straddling-most p u v d) ∙ ap (λ (n : ℕ). (n - c) ∷ []) (sym left-size) ∙ sym (cut-place (length u) c z);
-      }
-    where
-      u : List ℕ
-      u = part at left w
-
-      v : List ℕ
-      v = part (at + left) right w
-
-      here-begins : begins p (drop (left - c) (part at left w ++ part (at + left) right w)) ≡ true
-      here-begins = at-begins p (part at left w ++ part (at + left) right w) (left - c) (omega (arith, whole-size), taken (left - c) (at + left - c) (omega arith) (omega arith) ∙ e)
-
-      inside : In (left - c) (straddling p (part at left w) (part (at + left) right w))
-      inside =
-          below-in (λ i. begins p (drop i (u ++ v)) && (ltb i (length u) && ltb (length u) (i + length p))) (suc (length (u ++ v))) (left - c) (omega (arith, whole-size))
-          (and-intro (begins p (drop (left - c) (u ++ v))) (ltb (left - c) (length u) && ltb (length u) (left - c + length p)) here-begins
-          (and-intro (ltb (left - c) (length u)) (ltb (length u) (left - c + length p)) (lt-ltb (left - c) (length u) (omega (arith, left-size))) (lt-ltb (length u) (left - c + length p) (omega (arith, left-size)))))
-
-  cut-miss : (first end : ℕ) → 0 < length p → first ≡ 1 + (length p - right - 1) → end ≡ min (length p) (suc left)
-      → ((d : ℕ) → first ≤ d → d < end → In d (triedCuts p) → part (at + left - d) (length p) w ≡ p → ⊥)
-      → JoinCut p (part at left w) (part (at + left) right w) 0
-  cut-miss first end z f g h =
-      record {
-        small = z;
-        inside = omega arith;
-        place = λ d. straddling-cut p (triedCuts p) u v (tried-suffice p) d ∙ in-none (cutAt p (triedCuts p) u v) none ∙ sym (cut-place-none (length u) 0 refl);
-      }
-    where
-      u : List ℕ
-      u = part at left w
-
-      v : List ℕ
-      v = part (at + left) right w
-
-      none : (i : ℕ) → In i (cutAt p (triedCuts p) (part at left w) (part (at + left) right w)) → ⊥
-      none i m =
-          let (c, n, e, b) = cut-at p (triedCuts p) u v i m in
-          let (k, q) = begins-at p (u ++ v) i (omega (arith, whole-size, left-size)) b in
-          let (o, s) = tried-suffice p .cut c n in
-          h c (omega (arith, whole-size, left-size)) (omega (arith, left-size)) n
-          (sym (taken i (at + left - c) (omega (arith, whole-size)) (omega (arith, left-size))) ∙ q)
-
 -- ---- the cuts of a pattern of samples, one after the other
 
 -- at no cut that is tried, from `first` up to c, the pattern stands across the join
@@ -126,20 +58,65 @@ module _ (o : Order) (p w : List ℕ) where
       (λ q. n (subst (λ (i : ℕ). In i (triedCuts (map (rankOf o) p))) q m) (subst (λ (i : ℕ). part (join - i) (length p) w ≡ map (rankOf o) p) q e))
       (λ l. absurd (omega arith))
 
-  ranks-size : length (map (rankOf o) p) ≡ length p
-  ranks-size = length-map p (rankOf o)
-
+  -- two strings that stand one behind the other in w
   module _ (at left right : ℕ) (fits : at + left + right ≤ length w) where
+    abbrev P : List ℕ
+    P = map (rankOf o) p
+
+    abbrev u : List ℕ
+    u = part at left w
+
+    abbrev v : List ℕ
+    v = part (at + left) right w
+
+    ranks-size : length (map (rankOf o) p) ≡ length p
+    ranks-size = length-map p (rankOf o)
+
+    left-size : length (part at left w) ≡ left
+    left-size = part-length at left w (omega arith)
+
+    whole-size : length (part at left w ++ part (at + left) right w) ≡ left + right
+    whole-size = length-append u v ∙ omega (arith, left-size, part-length (at + left) right w (omega arith))
+
+    taken : (i k : ℕ) → i + length p ≤ left + right → k ≡ at + i → take (length (map (rankOf o) p)) (drop i (part at left w ++ part (at + left) right w)) ≡ part k (length p) w
+    unfolding part
+    taken i k h e =
+        ap₂ {C = List ℕ} (λ n l. take n (drop i l)) ranks-size (sym (part-append at left right w))
+        ∙ part-part at (left + right) i (length p) w h
+        ∙ ap (λ (j : ℕ). part j (length p) w) (sym e)
+
     pub join-hit : (join c : ℕ) → join ≡ at + left → 0 < c → c < length p → c ≤ left → length p ≤ c + right → part (join - c) (length p) w ≡ map (rankOf o) p
         → JoinCut (map (rankOf o) p) (part at left w) (part (at + left) right w) c
+    unfolding straddling straddles
     join-hit join c j z k l m e =
-        let q : join - c ≡ at + left - c = omega arith in
-        cut-hit (map (rankOf o) p) w at left right fits c z (omega (arith, ranks-size)) l (omega (arith, ranks-size))
-        (ap (λ (n : ℕ). part (at + left - c) n w) ranks-size ∙ ap (λ (i : ℕ). part i (length p) w) (sym q) ∙ e)
+        record {
+          small = omega (arith, ranks-size);
+          inside = omega (arith, left-size);
+          place = λ d. only-member (straddling P u v) (left - c) inside (straddling-most P u v d) ∙ ap (λ (n : ℕ). (n - c) ∷ []) (sym left-size) ∙ sym (cut-place (length u) c z);
+        }
+      where
+        here-begins : begins (map (rankOf o) p) (drop (left - c) (part at left w ++ part (at + left) right w)) ≡ true
+        here-begins = at-begins P (u ++ v) (left - c) (omega (arith, whole-size, ranks-size), taken (left - c) (join - c) (omega arith) (omega arith) ∙ e)
+
+        inside : In (left - c) (straddling (map (rankOf o) p) (part at left w) (part (at + left) right w))
+        inside =
+            below-in (λ i. begins P (drop i (u ++ v)) && (ltb i (length u) && ltb (length u) (i + length P))) (suc (length (u ++ v))) (left - c) (omega (arith, whole-size))
+            (and-intro (begins P (drop (left - c) (u ++ v))) (ltb (left - c) (length u) && ltb (length u) (left - c + length P)) here-begins
+            (and-intro (ltb (left - c) (length u)) (ltb (length u) (left - c + length P)) (lt-ltb (left - c) (length u) (omega (arith, left-size))) (lt-ltb (length u) (left - c + length P) (omega (arith, left-size, ranks-size)))))
 
     pub join-miss : (join first end c : ℕ) → join ≡ at + left → 0 < length p → first ≡ 1 + (length p - right - 1) → end ≡ min (length p) (suc left) → end ≤ c
         → Missed o p w join first c → JoinCut (map (rankOf o) p) (part at left w) (part (at + left) right w) 0
     join-miss join first end c j z f g k h =
-        cut-miss (map (rankOf o) p) w at left right fits first end (omega (arith, ranks-size)) (omega (arith, ranks-size)) (omega (arith, ranks-size))
-        (λ d a b m e. let q : join - d ≡ at + left - d = omega arith in
-        h d a (omega arith) m (ap (λ (i : ℕ). part i (length p) w) q ∙ ap (λ (n : ℕ). part (at + left - d) n w) (sym ranks-size) ∙ e))
+        record {
+          small = omega (arith, ranks-size);
+          inside = omega arith;
+          place = λ d. straddling-cut P (triedCuts P) u v (tried-suffice P) d ∙ in-none (cutAt P (triedCuts P) u v) none ∙ sym (cut-place-none (length u) 0 refl);
+        }
+      where
+        none : (i : ℕ) → In i (cutAt (map (rankOf o) p) (triedCuts (map (rankOf o) p)) (part at left w) (part (at + left) right w)) → ⊥
+        none i m =
+            let (d, n, e, b) = cut-at P (triedCuts P) u v i m in
+            let (l, q) = begins-at P (u ++ v) i (omega (arith, whole-size, left-size)) b in
+            let (a, s) = tried-suffice P .cut d n in
+            h d (omega (arith, whole-size, left-size, ranks-size)) (omega (arith, left-size, ranks-size)) n
+            (sym (taken i (join - d) (omega (arith, whole-size, ranks-size)) (omega (arith, left-size))) ∙ q)

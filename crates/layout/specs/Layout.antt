@@ -1,7 +1,7 @@
 -- The constants of the layout under their names, and what stands in the areas of a search. w is the work slice, r a rule.
 use mathlib.Core.List.{List}
-use Prim.Native.Nat.{ℕ, _+_, _*_, _/_, _%_}
-use lib.ListN.{getD}
+use Prim.Native.Nat.{ℕ, _+_, _/_, _%_, _≤_, _<_}
+use lib.ListN.{length, getD}
 
 abbrev pub LONGEST : ℕ
 LONGEST = 2048
@@ -62,9 +62,7 @@ countIn w r = getD w (FOUND + r) 0 / PACK
 abbrev pub joinCutIn : List ℕ → ℕ → ℕ
 joinCutIn w r = getD w (FOUND + r) 0 % PACK
 
--- its halves, where it is a pair
-abbrev pub leftIn : List ℕ → ℕ → ℕ
-leftIn w r = getD w (TABLE + 2 * r) 0 % KIND
-
-abbrev pub rightIn : List ℕ → ℕ → ℕ
-rightIn w r = getD w (TABLE + 2 * r + 1) 0 % KIND
+-- r is the number of a rule, and w has room for all areas
+pub record Readable (w : List ℕ) (r : ℕ) : Type 0 where
+  pub low : r < 2304
+  pub long : WORK ≤ length w

@@ -2,17 +2,18 @@
 use mathlib.Core.Path.{_≡_, sym, _∙_, ap}
 use mathlib.Core.Bool.{true, false}
 use mathlib.Core.Logic.{_⊎_, inl, inr}
-use mathlib.Core.List.{List}
+use mathlib.Core.List.{List, [], _∷_}
 use Prim.Native.Nat.{ℕ, _-_, _≤_, _<_}
 use native.Mathlib.Omega.{arith}
-use lib.ListN.{length, take, drop, length-append}
+use lib.ListN.{length, take, drop, getD, length-append}
 use lib.Seq.{take-at}
 use Rattle.definitions.specs.declared.Answer.{Answer}
 use Rattle.definitions.specs.declared.Answer.the-variants.{Done, Refused}
 use Rattle.definitions.specs.Words.{placed}
-use Rattle.definitions.specs.Services.{done, refused, Check, Service, firstMet, outcomeOf, outcome, resultAfter}
+use Rattle.definitions.specs.Services.{done, refused, Check, firstMet, outcomeOf, outcome, resultSlice, slicesAfter, Serves, Answers}
 use Rattle.definitions.specs.Programs.{refusedLine, printed}
 use Rattle.lists.specs.Decisions.{First, Passed, decide, first-decides, passed-all}
+use Rattle.lists.specs.Serving.{by}
 use Rattle.lines.specs.Lines.{refusal, refusalNumber}
 
 -- what stands at the front of a slice fits in it
@@ -20,57 +21,57 @@ pub front-fits : (l old new : List ℕ) → new ≡ placed l old → length l �
 unfolding placed
 front-fits l old new e = omega (arith, length-append l (drop (length l) old), ap length e)
 
--- a step that ends in r, and gives n on success
-module _ (s : Service) (n : ℕ) (e : s .success ≡ done n 0) (r : Answer) (h : outcomeOf r ≡ outcome s) where
+-- a step that ends in r, with these checks, and writes l
+module _ (checks : List Check) (l old new : List ℕ) (r : Answer) (v : Serves (by checks (done (length l) 0) (resultSlice l old ∷ [])) (Answers r) (new ∷ [])) where
   module _ (x y : ℕ) (q : r ≡ Refused x y) where
-    told : (c : Check) × First c (s .checks) × (c .number ≡ x)
+    told : (c : Check) × First c checks × (c .number ≡ x)
     unfolding outcome outcomeOf
-    told = go (decide (s .checks))
+    told = go (decide checks)
       where
-        go : ((c : Check) × First c (s .checks)) ⊎ Passed (s .checks) → (c : Check) × First c (s .checks) × (c .number ≡ x)
+        go : ((c : Check) × First c checks) ⊎ Passed checks → (c : Check) × First c checks × (c .number ≡ x)
         go (inl (c, d)) =
-            let z : refused x y ≡ refused (c .number) (c .place) = sym (ap outcomeOf q) ∙ h ∙ first-decides c (λ c. refused (c .number) (c .place)) (s .success) d in
+            let z : refused x y ≡ refused (c .number) (c .place) = sym (ap outcomeOf q) ∙ v .answer ∙ first-decides c (λ c. refused (c .number) (c .place)) (done (length l) 0) d in
             (c, d, cc)
         go (inr p) =
-            let z : refused x y ≡ done n 0 = sym (ap outcomeOf q) ∙ h ∙ passed-all (λ c. refused (c .number) (c .place)) (s .success) p ∙ e in
+            let z : refused x y ≡ done (length l) 0 = sym (ap outcomeOf q) ∙ v .answer ∙ passed-all (λ c. refused (c .number) (c .place)) (done (length l) 0) p in
             let no : _≡_ {A = ℕ} 0 1 = cc in
             absurd (omega arith)
 
     -- with what is printed where none refuses; the checks' numbers are small
-    pub refusal-printed : (l output : List ℕ) → output ≡ printed (s .checks) l → firstMet (s .checks) (λ c. c .number) 0 < 10000
+    pub refusal-printed : (m output : List ℕ) → output ≡ printed checks m → firstMet checks (λ c. c .number) 0 < 10000
         → (refusalNumber r < 10000) × (refusal r ≡ output)
     unfolding refusal refusalNumber printed refusedLine
-    refusal-printed l output g small =
+    refusal-printed m output g small =
         let (c, d, f) = told in (
           omega (arith, ap refusalNumber q, first-decides c (λ c. c .number) 0 d),
-          ap refusal q ∙ sym (g ∙ first-decides c refusedLine l d ∙ ap (λ (k : ℕ). refusal (Refused k 0)) f),
+          ap refusal q ∙ sym (g ∙ first-decides c refusedLine m d ∙ ap (λ (k : ℕ). refusal (Refused k 0)) f),
         )
 
   module _ (k : ℕ) (q : r ≡ Done k) where
-    passed : Passed (s .checks) × (k ≡ n)
+    passed : Passed checks × (k ≡ length l)
     unfolding outcome outcomeOf
-    passed = go (decide (s .checks))
+    passed = go (decide checks)
       where
-        go : ((c : Check) × First c (s .checks)) ⊎ Passed (s .checks) → Passed (s .checks) × (k ≡ n)
+        go : ((c : Check) × First c checks) ⊎ Passed checks → Passed checks × (k ≡ length l)
         go (inl (c, d)) =
-            let z : done k 0 ≡ refused (c .number) (c .place) = sym (ap outcomeOf q) ∙ h ∙ first-decides c (λ c. refused (c .number) (c .place)) (s .success) d in
+            let z : done k 0 ≡ refused (c .number) (c .place) = sym (ap outcomeOf q) ∙ v .answer ∙ first-decides c (λ c. refused (c .number) (c .place)) (done (length l) 0) d in
             let no : _≡_ {A = ℕ} 0 1 = cc in
             absurd (omega arith)
         go (inr p) =
-            let z : done k 0 ≡ done n 0 = sym (ap outcomeOf q) ∙ h ∙ passed-all (λ c. refused (c .number) (c .place)) (s .success) p ∙ e in
+            let z : done k 0 ≡ done (length l) 0 = sym (ap outcomeOf q) ∙ v .answer ∙ passed-all (λ c. refused (c .number) (c .place)) (done (length l) 0) p in
             (p, cc)
 
-    pub success-printed : (l output : List ℕ) → output ≡ printed (s .checks) l → l ≡ output
+    pub success-printed : (m output : List ℕ) → output ≡ printed checks m → m ≡ output
     unfolding printed
-    success-printed l output g = sym (g ∙ passed-all refusedLine l (passed .0))
+    success-printed m output g = sym (g ∙ passed-all refusedLine m (passed .0))
 
     -- what was written stands at the front of the result slice
-    pub success-written : (old new : List ℕ) → new ≡ resultAfter s old → length (s .written) ≡ n → (k ≤ length new) × (take (k - 0) new ≡ s .written)
-    unfolding resultAfter placed
-    success-written old new g size =
-        let front : new ≡ placed (s .written) old = g ∙ passed-all (λ c. old) (placed (s .written) old) (passed .0) in
+    pub success-written : (k ≤ length new) × (take (k - 0) new ≡ l)
+    unfolding slicesAfter placed
+    success-written =
+        let front : new ≡ placed l old = ap (λ (s : List (List ℕ)). getD s 0 []) (v .slices) ∙ passed-all (λ c. old) (placed l old) (passed .0) in
         let number = passed .1 in
-        (omega (arith, front-fits (s .written) old new front), ap (take (k - 0)) front ∙ take-at (s .written) (drop (length (s .written)) old) (k - 0) (omega arith))
+        (omega (arith, front-fits l old new front), ap (take (k - 0)) front ∙ take-at l (drop (length l) old) (k - 0) (omega arith))
 
-    pub success-passed : firstMet (s .checks) (λ c. true) false ≡ false
+    pub success-passed : firstMet checks (λ c. true) false ≡ false
     success-passed = passed-all (λ c. true) false (passed .0)

@@ -1,28 +1,29 @@
--- What listing reads of a rule once all are counted: nothing to list (`none-listed`), one symbol (`symbol-listed`), or the halves and the
--- cut of a pair (`pair-lists`), whose positions are those of the left half, of the cut, and of the right half (`pair-listed`).
+-- Listing, rule by rule, once all are counted: nothing to list, one symbol, or the positions of a pair's left half, of the cut at its join, and of its
+-- right half (`pair-listed`). What each part is listed from (`list-left`, `list-rest`, `rest-right`), and that what they leave, one behind the other, is
+-- what the rule leaves (`list-both`, `rest-both`); and the whole (`root-done`).
 use mathlib.Core.Path.{_≡_, refl, sym, _∙_, ap, ap₂}
 use mathlib.Core.Bool.{Bool, true, false, cond, _&&_}
 use mathlib.Core.List.{List, [], _∷_, _++_, map}
-use Prim.Native.Nat.{ℕ, _+_, _-_, _*_, _≤_, _<_, min}
+use Prim.Native.Nat.{ℕ, _+_, _-_, _≤_, _<_, min}
 use native.Mathlib.Omega.{arith}
-use lib.ListN.{length, getD, length-append, length-map}
+use lib.ListN.{length, length-append, length-map, take, drop}
 use lib.Dec.{eqb}
 use Rattle.definitions.specs.Words.{below, begins, placed}
-use Rattle.definitions.specs.Table.{rankOf, isPair, leftHalf, rightHalf, ruleCount}
+use Rattle.definitions.specs.Table.{rankOf, ruleString, ruleCount}
 use Rattle.definitions.specs.Occurrences.{occurrences}
-use Rattle.lists.specs.Lists.{empty, placed-none}
+use Rattle.lists.specs.Lists.{empty, placed-none, placed-both}
 use Rattle.lyndon.specs.Reading.{rule-range}
-use Rattle.lyndon.specs.Shapes.{symbol-string}
-use Rattle.layout.specs.Layout.{TABLE, WORK, KIND, lengthIn, countIn, joinCutIn, leftIn, rightIn}
+use Rattle.layout.specs.Layout.{lengthIn, countIn, joinCutIn, Readable}
+use Rattle.decoding.specs.declared.Rule.the-variants.{Symbol, Pair}
+use Rattle.decoding.specs.Decoding.{ruleIn}
 use Rattle.places.specs.Places.{Placed}
 use Rattle.joins.specs.Joining.{cutPlace}
-use Rattle.joins.proofs.Joining.{cut-place-size}
-use Rattle.search.specs.Found.{occursIn, acrossJoin}
-use Rattle.listing.specs.Listing.{Finds, inDrive, tableFor, foundFor}
-use Rattle.search.proofs.Standing.{PlacedHalves, symbol-rule, pair-rule, pair-stands}
-use Rattle.search.proofs.Counting.{rule-occurrences}
+use Rattle.search.specs.Found.{occursIn}
+use Rattle.listing.specs.Listing.{Finds, inDrive, tableFor, foundFor, Listable, Listed, RestListable, ListedRest}
+use Rattle.search.proofs.Standing.{PlacedHalves, placed-symbol, pair-stands, rule-stands}
+use Rattle.search.proofs.Counting.{pair-occurs, pair-counts}
 use Rattle.search.proofs.Starting.{root-occurs}
-use Rattle.listing.proofs.Drives.{drive-length, drive-append, drive-behind, drive-cut, drive-marked}
+use Rattle.listing.proofs.Drives.{drive-length, drive-append, drive-behind, drive-cut, drive-marked, drive-cut-size}
 
 -- a pattern fits into one symbol at its start alone
 one-place : (p : List ℕ) (a : ℕ) → 0 < length p → 1 ≤ length (occurrences p (a ∷ [])) → occurrences p (a ∷ []) ≡ 0 ∷ []
@@ -34,13 +35,13 @@ one-place (b ∷ p) a h l = go (eqb b a && begins p []) l
     go true l = refl
     go false l = absurd (omega arith)
 
--- what the code reads of a pair rule
-pub record PairLists (w : List ℕ) (r : ℕ) : Type 0 where
-  pub left : leftIn w r < r
-  pub right : rightIn w r < r
-  pub size : lengthIn w r ≡ lengthIn w (leftIn w r) + lengthIn w (rightIn w r)
-  pub cut : joinCutIn w r ≤ lengthIn w (leftIn w r)
-  pub number : countIn w r ≡ countIn w (leftIn w r) + (min 1 (joinCutIn w r) + countIn w (rightIn w r))
+-- what the code reads of the pair of u and v
+pub record PairLists (w : List ℕ) (r u v : ℕ) : Type 0 where
+  pub left : u < r
+  pub right : v < r
+  pub size : lengthIn w r ≡ lengthIn w u + lengthIn w v
+  pub cut : joinCutIn w r ≤ lengthIn w u
+  pub number : countIn w r ≡ countIn w u + (min 1 (joinCutIn w r) + countIn w v)
 
 module _ (w : List ℕ) (h : Finds w) where
   loaded : Placed (h .order) (h .text) (h .chair) w
@@ -49,98 +50,193 @@ module _ (w : List ℕ) (h : Finds w) where
   filled : 0 < length (map (rankOf (h .order)) (h .pattern))
   filled = omega (arith, length-map (h .pattern) (rankOf (h .order)), h .searched .pattern .filled)
 
-  pub finds-long : WORK ≤ length w
-  finds-long = h .searched .loaded .kept .long
+  finds-range : (0 < ruleCount (tableFor w h)) × (ruleCount (tableFor w h) ≤ 2304)
+  finds-range = rule-range (h .order) (h .text) (h .chair) (loaded .kept .stored)
 
-  pub finds-most : ruleCount (tableFor w h) ≤ 2304
-  finds-most = rule-range (h .order) (h .text) (h .chair) (loaded .kept .stored) .1
-
-  pub finds-some : 0 < ruleCount (tableFor w h)
-  finds-some = rule-range (h .order) (h .text) (h .chair) (loaded .kept .stored) .0
-
-  pub rule-number : (r : ℕ) → r < ruleCount (tableFor w h) → countIn w r ≡ length (foundFor w h r)
+  rule-number : (r : ℕ) → r < ruleCount (tableFor w h) → countIn w r ≡ length (foundFor w h r)
   unfolding foundFor
   rule-number r low = h .searched .found r low .number
 
   module _ (r : ℕ) (low : r < ruleCount (tableFor w h)) where
-    pub none-listed : (at : ℕ) (old : List ℕ) → countIn w r ≡ 0 → old ≡ placed (inDrive at (foundFor w h r)) old
+    none-listed : (at : ℕ) (old : List ℕ) → countIn w r ≡ 0 → old ≡ placed (inDrive at (foundFor w h r)) old
     none-listed at old l =
         sym (ap (λ (x : List ℕ). placed x old) (empty (inDrive at (foundFor w h r)) (drive-length at (foundFor w h r) ∙ omega (arith, rule-number r low))) ∙ placed-none old)
 
-    pub symbol-listed : (countIn w r ≡ 0 → ⊥) → getD w (TABLE + 2 * r) 0 < KIND → foundFor w h r ≡ 0 ∷ []
+    symbol-listed : (a b : ℕ) → (countIn w r ≡ 0 → ⊥) → ruleIn w r ≡ Symbol a b → foundFor w h r ≡ 0 ∷ []
     unfolding foundFor occursIn
-    symbol-listed l s =
-        let string = symbol-string (h .order) (tableFor w h) r low (symbol-rule (h .order) (h .text) (h .chair) w loaded r low s) in
+    symbol-listed a b l e =
+        let string = placed-symbol (h .order) (h .text) (h .chair) w loaded r low a b e .string (h .order) in
         let p = map (rankOf (h .order)) (h .pattern) in
         ap (occurrences p) string
         ∙ one-place p _ filled (omega (arith, h .searched .found r low .number, ap (λ (x : List ℕ). length (occurrences p x)) string))
 
-    module _ (k : KIND ≤ getD w (TABLE + 2 * r) 0) where
-      is-pair : isPair (tableFor w h) r ≡ true
-      is-pair = pair-rule (h .order) (h .text) (h .chair) w loaded r low k .0
+    module _ (u v : ℕ) (e : ruleIn w r ≡ Pair u v) where
+      halves : PlacedHalves (h .order) (tableFor w h) r u v w
+      halves = pair-stands (h .order) (h .text) (h .chair) w loaded r low u v e
 
-      halves : PlacedHalves (h .order) (tableFor w h) r (leftIn w r) (rightIn w r) w
-      halves =
-          let (p, u, v) = pair-rule (h .order) (h .text) (h .chair) w loaded r low k in
-          pair-stands (h .order) (h .text) (h .chair) w loaded r low (leftIn w r) (rightIn w r) p u v
-
-      found-pair : foundFor w h r ≡ foundFor w h (leftIn w r) ++ (cutPlace (lengthIn w (leftIn w r)) (joinCutIn w r) ++ map (λ (i : ℕ). lengthIn w (leftIn w r) + i) (foundFor w h (rightIn w r)))
+      -- what is found in the halves and at the join
+      found-pair : (foundFor w h r ≡ foundFor w h u ++ (cutPlace (lengthIn w u) (joinCutIn w r) ++ map (λ (i : ℕ). lengthIn w u + i) (foundFor w h v)))
+          × (length (foundFor w h r) ≡ length (foundFor w h u) + (min 1 (joinCutIn w r) + length (foundFor w h v)))
       unfolding foundFor
       found-pair =
-          let (p, u, v) = pair-rule (h .order) (h .text) (h .chair) w loaded r low k in
-          let o = h .order in
-          let t = tableFor w h in
-          let P = map (rankOf o) (h .pattern) in
-          let across : acrossJoin o t P r ≡ cutPlace (lengthIn w (leftIn w r)) (joinCutIn w r) = h .searched .found r low .cut p ∙ ap (λ (i : ℕ). cutPlace i (joinCutIn w r)) (sym (halves .left-size)) in
-          rule-occurrences o t P w r (leftIn w r) (rightIn w r) halves u v filled
-          ∙ ap₂ {C = List ℕ} (λ x n. occursIn o t P (leftIn w r) ++ (x ++ map (λ (i : ℕ). n + i) (occursIn o t P (rightIn w r)))) across (sym (halves .left-size))
+          let P = map (rankOf (h .order)) (h .pattern) in
+          let across = h .searched .found r low .cut (halves .pair .is-pair) in (
+            pair-occurs (h .order) (tableFor w h) P r u v (lengthIn w u) (joinCutIn w r) (halves .pair) (halves .left-size) filled across,
+            pair-counts (h .order) (tableFor w h) P r u v (lengthIn w u) (joinCutIn w r) (halves .pair) (halves .left-size) filled across,
+          )
 
-      pub pair-listed : (at join : ℕ) → join ≡ at + lengthIn w (leftIn w r) → inDrive at (foundFor w h r)
-          ≡ inDrive at (foundFor w h (leftIn w r)) ++ (inDrive 0 (cutPlace join (joinCutIn w r)) ++ inDrive join (foundFor w h (rightIn w r)))
-      pair-listed at join e =
-          let n = lengthIn w (leftIn w r) in
+      low-cut : joinCutIn w r ≤ lengthIn w u
+      low-cut = omega (arith, h .searched .found r low .inside (halves .pair .is-pair), ap length (halves .pair .left-half (h .order)), halves .left-size)
+
+      pair-listed : (at join : ℕ) → join ≡ at + lengthIn w u
+          → inDrive at (foundFor w h r) ≡ inDrive at (foundFor w h u) ++ (inDrive 0 (cutPlace join (joinCutIn w r)) ++ inDrive join (foundFor w h v))
+      pair-listed at join q =
+          let n = lengthIn w u in
           let c = joinCutIn w r in
-          let x = foundFor w h (leftIn w r) in
-          let y = foundFor w h (rightIn w r) in
-          let low-cut : c ≤ n = omega (arith, h .searched .found r low .inside is-pair, halves .left-size) in
-          ap (inDrive at) found-pair
-          ∙ drive-append at x (cutPlace n c ++ map (λ (i : ℕ). n + i) y)
-          ∙ ap (λ (l : List ℕ). inDrive at x ++ l)
+          let y = foundFor w h v in
+          ap (inDrive at) (found-pair .0)
+          ∙ drive-append at (foundFor w h u) (cutPlace n c ++ map (λ (i : ℕ). n + i) y)
+          ∙ ap (λ (l : List ℕ). inDrive at (foundFor w h u) ++ l)
           (drive-append at (cutPlace n c) (map (λ (i : ℕ). n + i) y)
-          ∙ ap₂ {C = List ℕ} (λ a b. a ++ b) (drive-cut at n c low-cut ∙ ap (λ (i : ℕ). inDrive 0 (cutPlace i c)) (sym e)) (drive-behind at n y ∙ ap (λ (i : ℕ). inDrive i y) (sym e)))
+          ∙ ap₂ {C = List ℕ} (λ a b. a ++ b) (drive-cut at n c low-cut) (drive-behind at n y)
+          ∙ ap (λ (i : ℕ). inDrive 0 (cutPlace i c) ++ inDrive i y) (sym q))
 
-      pub pair-lists : PairLists w r
+      pair-lists : PairLists w r u v
       pair-lists =
-          let n = lengthIn w (leftIn w r) in
-          let c = joinCutIn w r in
-          let x = foundFor w h (leftIn w r) in
-          let y = foundFor w h (rightIn w r) in
-          let left-low = halves .left-low in
-          let right-low = halves .right-low in
-          let total : length (foundFor w h r) ≡ length x + (min 1 c + length y) =
-          ap length found-pair
-          ∙ length-append x (cutPlace n c ++ map (λ (i : ℕ). n + i) y)
-          ∙ ap (λ (i : ℕ). length x + i) (length-append (cutPlace n c) (map (λ (i : ℕ). n + i) y) ∙ ap₂ {C = ℕ} (λ a b. a + b) (cut-place-size n c) (length-map y (λ (i : ℕ). n + i)))
-          in
+          let p = halves .pair in
+          let left = p .left in
+          let right = p .right in
           record {
-            left = left-low;
-            right = right-low;
-            size = halves-size;
-            cut = omega (arith, h .searched .found r low .inside is-pair, halves .left-size);
-            number = omega (arith, total, rule-number r low, rule-number (leftIn w r) (omega arith), rule-number (rightIn w r) (omega arith));
+            left = left;
+            right = right;
+            size =
+                omega (
+                  arith,
+                  loaded .sizes r low,
+                  ap length (p .string (h .order)),
+                  length-append (ruleString (h .order) (tableFor w h) u) (ruleString (h .order) (tableFor w h) v),
+                  halves .left-size,
+                  halves .right-size,
+                );
+            cut = low-cut;
+            number = omega (arith, found-pair .1, rule-number r low, rule-number u (omega arith), rule-number v (omega arith));
           }
-        where
-          halves-size : lengthIn w r ≡ lengthIn w (leftIn w r) + lengthIn w (rightIn w r)
-          halves-size =
-              loaded .sizes r low
-              ∙ ap length (halves .string)
-              ∙ length-append (leftHalf (h .order) (tableFor w h) r) (rightHalf (h .order) (tableFor w h) r)
-              ∙ omega (arith, halves .left-size, halves .right-size)
 
   -- the root's string is the marked text
-  pub root-listed : (rules : ℕ) → rules ≡ ruleCount (tableFor w h) → inDrive 0 (foundFor w h (rules - 1)) ≡ occurrences (h .pattern) (h .text)
+  root-listed : (rules : ℕ) → rules ≡ ruleCount (tableFor w h) → inDrive 0 (foundFor w h (rules - 1)) ≡ occurrences (h .pattern) (h .text)
   unfolding foundFor
   root-listed rules e =
       ap (λ (i : ℕ). inDrive 0 (occursIn (h .order) (tableFor w h) (map (rankOf (h .order)) (h .pattern)) (i - 1))) e
       ∙ ap (inDrive 0) (root-occurs (h .order) (h .pattern) (h .text) (h .chair) w loaded (h .searched .pattern))
       ∙ drive-marked (occurrences (h .pattern) (h .text))
+
+-- ---- a rule
+
+module _ {w : List ℕ} {r at n : ℕ} (l : Listable w r at n) where
+  pub lists-known : Readable w r
+  lists-known = record { low = omega (arith, l .low, finds-range w (l .finds)); long = l .finds .searched .loaded .kept .long }
+
+  pub list-none : (old : List ℕ) → countIn w r ≡ 0 → Listed w r at 0 old old
+  list-none old k = record { number = omega arith; front = λ h low. none-listed w h r low at old k }
+
+  pub list-symbol : (a b m : ℕ) (old new : List ℕ) → (countIn w r ≡ 0 → ⊥) → ruleIn w r ≡ Symbol a b → m ≡ 1 → new ≡ placed (inDrive at (0 ∷ [])) old → Listed w r at m old new
+  list-symbol a b m old new k s e f =
+      record {
+        number = omega (arith, rule-number w (l .finds) r (l .low), ap length (symbol-listed w (l .finds) r (l .low) a b k s));
+        front = λ h low. f ∙ ap (λ (x : List ℕ). placed (inDrive at x) old) (sym (symbol-listed w h r low a b k s));
+      }
+
+  module _ (u v : ℕ) (k : ruleIn w r ≡ Pair u v) where
+    pub list-pair : PairLists w r u v
+    list-pair = pair-lists w (l .finds) r (l .low) u v k
+
+    pub list-left : Listable w u at n
+    list-left =
+        let q = list-pair in
+        record { finds = l .finds; low = omega (arith, q .left, l .low); inside = omega (arith, q .size, l .inside); room = omega (arith, q .number, l .room) }
+
+    pub list-rest : (c join m entries : ℕ) → c ≡ joinCutIn w r → join ≡ at + lengthIn w u → m ≡ countIn w u → entries ≡ n - m → RestListable w c v join entries
+    list-rest c join m entries d e f g =
+        let q = list-pair in
+        record {
+          finds = l .finds;
+          low = omega (arith, q .right, l .low);
+          inside = omega (arith, q .size, l .inside);
+          cut = omega (arith, q .cut);
+          room = omega (arith, q .number, l .room);
+        }
+
+    pub left-fits : (m : ℕ) → m ≡ countIn w u → m ≤ n
+    left-fits m e = omega (arith, list-pair .number, l .room)
+
+    pub list-both : (c join m i : ℕ) (old mid new : List ℕ) → n ≡ length old → c ≡ joinCutIn w r → join ≡ at + lengthIn w u
+        → Listed w u at m old mid → ListedRest w c v join i (take (length mid - m) (drop m mid)) new
+        → Listed w r at (m + i) old (take m mid ++ (new ++ drop (length mid - m) (drop m mid)))
+    list-both c join m i old mid new s d f a b =
+        record {
+          number = omega (arith, a .number, b .number, d, list-pair .number);
+          front = both;
+        }
+      where
+        both : (h : Finds w) → r < ruleCount (tableFor w h)
+            → take m mid ++ (new ++ drop (length mid - m) (drop m mid)) ≡ placed (inDrive at (foundFor w h r)) old
+        both h low =
+            let q = list-pair in
+            let x = inDrive at (foundFor w h u) in
+            let y = inDrive 0 (cutPlace join c) ++ inDrive join (foundFor w h v) in
+            let whole : inDrive at (foundFor w h r) ≡ x ++ y =
+            pair-listed w h r low u v k at join f ∙ ap (λ (j : ℕ). x ++ (inDrive 0 (cutPlace join j) ++ inDrive join (foundFor w h v))) (sym d) in
+            let size : m ≡ length x = a .number ∙ rule-number w h u (omega (arith, q .left)) ∙ sym (drive-length at (foundFor w h u)) in
+            placed-both x y old mid new m size
+            (omega (arith, drive-length at (foundFor w h r), ap length whole, length-append x y, rule-number w h r low, l .room))
+            (a .front h (omega (arith, q .left)))
+            (b .front h (omega (arith, q .right)))
+            ∙ ap (λ (z : List ℕ). placed z old) (sym whole)
+
+-- ---- the join and the right half
+
+module _ {w : List ℕ} {c v join n : ℕ} (l : RestListable w c v join n) where
+  pub rest-right : (m entries : ℕ) → m ≡ min 1 c → entries ≡ n - m → Listable w v join entries
+  rest-right m entries f g = record { finds = l .finds; low = l .low; inside = l .inside; room = omega (arith, l .room) }
+
+  pub rest-both : (m i : ℕ) (old mid new : List ℕ) → n ≡ length old → m ≡ min 1 c
+      → mid ≡ placed (inDrive 0 (cutPlace join c)) old → Listed w v join i (take (length mid - m) (drop m mid)) new
+      → ListedRest w c v join (m + i) old (take m mid ++ (new ++ drop (length mid - m) (drop m mid)))
+  rest-both m i old mid new s g a b =
+      record {
+        number = omega (arith, g, b .number);
+        front = λ h low.
+            placed-both (inDrive 0 (cutPlace join c)) (inDrive join (foundFor w h v)) old mid new m
+            (g ∙ sym (drive-cut-size join c))
+            (omega (arith, drive-cut-size join c, drive-length join (foundFor w h v), rule-number w h v low, l .room))
+            a
+            (b .front h low);
+      }
+
+-- ---- the whole
+
+module _ {w : List ℕ} (h : Finds w) (rules : ℕ) (e : rules ≡ ruleCount (tableFor w h)) where
+  root-low : rules - 1 < ruleCount (tableFor w h)
+  root-low = omega (arith, finds-range w h)
+
+  root-number : countIn w (rules - 1) ≡ length (occurrences (h .pattern) (h .text))
+  root-number = rule-number w h (rules - 1) root-low ∙ sym (drive-length 0 (foundFor w h (rules - 1))) ∙ ap length (root-listed w h rules e)
+
+  pub root-some : 0 < rules
+  root-some = omega (arith, finds-range w h)
+
+  pub root-lists : (n : ℕ) → length (occurrences (h .pattern) (h .text)) ≤ n → Listable w (rules - 1) 0 n
+  root-lists n k =
+      record {
+        finds = h;
+        low = root-low;
+        inside = omega (arith, h .searched .loaded .sizes (rules - 1) root-low, rule-stands (h .order) (h .text) (h .chair) w (h .searched .loaded) (rules - 1) root-low .0);
+        room = omega (arith, root-number);
+      }
+
+  pub root-done : (m : ℕ) (old new : List ℕ) → Listed w (rules - 1) 0 m old new
+      → (m ≡ length (occurrences (h .pattern) (h .text))) × (new ≡ placed (occurrences (h .pattern) (h .text)) old)
+  root-done m old new l = (
+    l .number ∙ root-number,
+    l .front h root-low ∙ ap (λ (x : List ℕ). placed x old) (root-listed w h rules e),
+  )

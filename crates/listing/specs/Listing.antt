@@ -2,12 +2,11 @@
 -- occurrences in a rule, or of those behind its left half. w is the work slice, `old` and `new` the slice lent before and after.
 use mathlib.Core.Path.{_≡_}
 use mathlib.Core.List.{List, _++_, map}
-use Prim.Native.Nat.{ℕ, _+_, _-_, _*_, _≤_, _<_, min}
-use lib.ListN.{getD}
+use Prim.Native.Nat.{ℕ, _+_, _-_, _≤_, _<_, min}
 use Rattle.definitions.specs.declared.Order.{Order}
 use Rattle.definitions.specs.Words.{placed}
 use Rattle.definitions.specs.Table.{rankOf, tableOf, ruleCount}
-use Rattle.layout.specs.Layout.{TABLE, KIND, lengthIn, countIn, joinCutIn, rightIn}
+use Rattle.layout.specs.Layout.{lengthIn, countIn}
 use Rattle.joins.specs.Joining.{cutPlace}
 use Rattle.search.specs.Found.{occursIn}
 use Rattle.search.specs.Searching.{Searched}
@@ -45,16 +44,15 @@ pub record Listed (w : List ℕ) (r at n : ℕ) (old new : List ℕ) : Type 0 wh
   pub number : n ≡ countIn w r
   pub front : (h : Finds w) → r < ruleCount (tableFor w h) → new ≡ placed (inDrive at (foundFor w h r)) old
 
--- the same of what a pair rule has behind its left half; its join is at `join`
-pub record RestListable (w : List ℕ) (r join entries : ℕ) : Type 0 where
+-- the same of what a pair has behind its left half: the occurrence that is cut at c at its join, and those in its right half v
+pub record RestListable (w : List ℕ) (c v join entries : ℕ) : Type 0 where
   pub finds : Finds w
-  pub low : r < ruleCount (tableFor w finds)
-  pub is-pair : KIND ≤ getD w (TABLE + 2 * r) 0
-  pub inside : join + lengthIn w (rightIn w r) ≤ 2048
-  pub cut : joinCutIn w r ≤ join
-  pub room : min 1 (joinCutIn w r) + countIn w (rightIn w r) ≤ entries
+  pub low : v < ruleCount (tableFor w finds)
+  pub inside : join + lengthIn w v ≤ 2048
+  pub cut : c ≤ join
+  pub room : min 1 c + countIn w v ≤ entries
 
-pub record ListedRest (w : List ℕ) (r join n : ℕ) (old new : List ℕ) : Type 0 where
-  pub number : n ≡ min 1 (joinCutIn w r) + countIn w (rightIn w r)
-  pub front : (h : Finds w) → r < ruleCount (tableFor w h)
-      → new ≡ placed (inDrive 0 (cutPlace join (joinCutIn w r)) ++ inDrive join (foundFor w h (rightIn w r))) old
+pub record ListedRest (w : List ℕ) (c v join n : ℕ) (old new : List ℕ) : Type 0 where
+  pub number : n ≡ min 1 c + countIn w v
+  pub front : (h : Finds w) → v < ruleCount (tableFor w h)
+      → new ≡ placed (inDrive 0 (cutPlace join c) ++ inDrive join (foundFor w h v)) old

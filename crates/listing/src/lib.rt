@@ -1,11 +1,10 @@
 // The occurrences of a pattern that are counted, listed by the rules of the table from the root down: in a pair rule those of its left
 // half, the one at its join, those of its right half.
+use decoding::Rule;
+use decoding::rule_in;
 use joins::areas::cut_of;
-use joins::areas::is_symbol;
-use joins::areas::left_of;
 use joins::areas::length_of;
 use joins::areas::number_of;
-use joins::areas::right_of;
 ghost use mathlib.Core.Path.{_≡_};
 ghost use mathlib.Core.List.{[], _∷_};
 ghost use Prim.Native.Nat.{_-_, _≤_, _<_, min};
@@ -31,22 +30,21 @@ fn list_rule(work: &[u32], r: usize, at: usize, result: &mut [u32]) -> usize
     if number_of(work, r) == 0 {
         return 0;
     }
-    if is_symbol(work, r) {
+    let rule = rule_in(work, r);
+    let Rule::Pair(u, v) = rule else {
         return list_one(result, at);
-    }
-    let u = left_of(work, r);
-    let n = list_rule(work, u, at, result);
+    };
     let join = at + length_of(work, u);
-    n + list_rest(work, r, join, &mut result[n..])
+    let n = list_rule(work, u, at, result);
+    n + list_rest(work, cut_of(work, r), v, join, &mut result[n..])
 }
 
-// The same for the occurrence at the join of rule r, then those in its right half. The join stands at `join` in the marked text.
-fn list_rest(work: &[u32], r: usize, join: usize, result: &mut [u32]) -> usize
-    requires { ⌜ RestListable (now work) r join (length (now result)) ⌝ }
-    ensures { λ n. ⌜ ListedRest (now (work .entry)) r join n (now (result .entry)) (now (result .exit)) ⌝ }
+// The same for the occurrence that is cut at c at a join, then those in its right half v. The join stands at `join` in the marked text.
+fn list_rest(work: &[u32], c: usize, v: usize, join: usize, result: &mut [u32]) -> usize
+    requires { ⌜ RestListable (now work) c v join (length (now result)) ⌝ }
+    ensures { λ n. ⌜ ListedRest (now (work .entry)) c v join n (now (result .entry)) (now (result .exit)) ⌝ }
 {
-    let n = list_cut(result, join, cut_of(work, r));
-    let v = right_of(work, r);
+    let n = list_cut(result, join, c);
     n + list_rule(work, v, join, &mut result[n..])
 }
 

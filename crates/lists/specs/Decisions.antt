@@ -1,9 +1,13 @@
 -- Which of several checks decides: one of them is the first that is met (`First`), or none is (`Passed`), and `firstMet` then gives what that
--- check refuses with (`first-decides`), or success (`passed-all`).
-use mathlib.Core.Path.{_≡_, refl}
-use mathlib.Core.Bool.{Bool, true, false}
+-- check refuses with (`first-decides`), or success (`passed-all`). What the answer of a check (`checked`) or of several (`answered`) tells of them.
+use mathlib.Core.Path.{_≡_, refl, sym, _∙_, ap}
+use mathlib.Core.Bool.{Bool, true, false, cond}
 use mathlib.Core.Logic.{_⊎_, inl, inr}
-use mathlib.Core.List.{List, [], _∷_}
+use mathlib.Core.List.{List, [], _∷_, _++_}
+use Prim.Native.Nat.{ℕ}
+use native.Mathlib.Omega.{arith}
+use Rattle.definitions.specs.declared.Answer.{Answer}
+use Rattle.definitions.specs.declared.Answer.the-variants.{Done, Refused}
 use Rattle.definitions.specs.Services.{Check, firstMet}
 
 -- d is the first of the checks that is met
@@ -35,3 +39,65 @@ pub passed-all {ℓ} : {A : Type ℓ} {checks : List Check} (f : Check → A) (x
 unfolding firstMet
 passed-all f x none = refl
 passed-all f x (more c e r) = rw e (passed-all f x r)
+
+-- ---- more checks behind
+
+pub first-before : {d : Check} {a : List Check} (b : List Check) → First d a → First d (a ++ b)
+first-before b (met e) = met e
+first-before b (later c e f) = later c e (first-before b f)
+
+-- where none of the first is met, those behind decide
+pub passed-front {ℓ} : {A : Type ℓ} {a : List Check} (b : List Check) (f : Check → A) (x : A) → Passed a → firstMet (a ++ b) f x ≡ firstMet b f x
+unfolding firstMet
+passed-front b f x none = refl
+passed-front b f x (more c e p) = rw e (passed-front b f x p)
+
+-- ---- answers
+
+-- the answer of one check: the refusal where it is met, else what goes on; and that of several in order
+abbrev pub checked : Check → ℕ → Answer
+checked c n = cond (c .met) (Refused (c .number) (c .place)) (Done n)
+
+abbrev pub answered : List Check → ℕ → Answer
+answered checks n = firstMet checks (λ c. Refused (c .number) (c .place)) (Done n)
+
+module _ (checks : List Check) (n : ℕ) {r : Answer} (e : r ≡ answered checks n) where
+  -- an answer that refuses is that of one of them
+  pub refused-some : {a b : ℕ} → r ≡ Refused a b → (d : Check) × First d checks × (r ≡ Refused (d .number) (d .place))
+  refused-some {a} {b} h = go (decide checks)
+    where
+      go : ((d : Check) × First d checks) ⊎ Passed checks → (d : Check) × First d checks × (r ≡ Refused (d .number) (d .place))
+      go (inl (d, f)) = (d, f, e ∙ first-decides d (λ c. Refused (c .number) (c .place)) (Done n) f)
+      go (inr p) =
+          let f : Done n ≡ Refused a b = sym (e ∙ passed-all (λ c. Refused (c .number) (c .place)) (Done n) p) ∙ h in
+          let z : _≡_ {A = ℕ} 0 1 = cc in
+          absurd (omega arith)
+
+  -- one that goes on has met none, and hands on what was to be handed on
+  pub done-all : {a : ℕ} → r ≡ Done a → Passed checks × (a ≡ n)
+  done-all {a} h = go (decide checks)
+    where
+      go : ((d : Check) × First d checks) ⊎ Passed checks → Passed checks × (a ≡ n)
+      go (inl (d, f)) =
+          let g : Refused (d .number) (d .place) ≡ Done a = sym (e ∙ first-decides d (λ c. Refused (c .number) (c .place)) (Done n) f) ∙ h in
+          let z : _≡_ {A = ℕ} 0 1 = cc in
+          absurd (omega arith)
+      go (inr p) =
+          let f : Done a ≡ Done n = sym h ∙ e ∙ passed-all (λ c. Refused (c .number) (c .place)) (Done n) p in
+          (p, cc)
+
+-- the same of one check
+module _ (c : Check) (n : ℕ) {r : Answer} (e : r ≡ checked c n) where
+  pub refused-met : {a b : ℕ} → r ≡ Refused a b → (c .met ≡ true) × (r ≡ Refused (c .number) (c .place))
+  unfolding firstMet
+  refused-met f = go (refused-some (c ∷ []) n e f)
+    where
+      go : (d : Check) × First d (c ∷ []) × (r ≡ Refused (d .number) (d .place)) → (c .met ≡ true) × (r ≡ Refused (c .number) (c .place))
+      go (d, met q, g) = (q, g)
+
+  pub done-met : {a : ℕ} → r ≡ Done a → (c .met ≡ false) × (a ≡ n)
+  unfolding firstMet
+  done-met {a} f = go (done-all (c ∷ []) n e f)
+    where
+      go : Passed (c ∷ []) × (a ≡ n) → (c .met ≡ false) × (a ≡ n)
+      go (more _ q none, g) = (q, g)

@@ -7,3 +7,4 @@ pub mod Sameness
 pub mod Parts
 pub mod Newest
 pub mod Decisions
+pub mod Serving

@@ -4,8 +4,8 @@ use mathlib.Core.List.{List, [], _∷_, _++_}
 use Prim.Native.Nat.{ℕ, zero, suc, _+_, _-_, _≤_, _<_}
 use native.Mathlib.Omega.{arith}
 use native.Mathlib.Nat.{zero-add, suc-add}
-use lib.ListN.{length, take, drop, getD, set, length-take, length-drop}
-use lib.Seq.{getD-take, getD-drop, drop-drop, drop-cons, take-add, drop-set-add, drop-set-lt, take-set-lt, take-set-le, take-take, take-nil, take-at}
+use lib.ListN.{length, take, drop, getD, set, length-append, length-take, length-drop}
+use lib.Seq.{getD-take, getD-drop, drop-drop, drop-cons, take-add, drop-set-add, drop-set-lt, take-set-lt, take-set-le, take-take, take-nil, take-at, take-append-le, length-take-le, drop-append-add}
 
 module _ {ℓ} {A : Type ℓ} where
   -- the n entries from o on
@@ -86,3 +86,29 @@ module _ {ℓ} {A : Type ℓ} where
       ∙ ap (part o n) e
       ∙ part-part 0 m o n w h
       ∙ ap (λ (k : ℕ). part k n w) (zero-add o)
+
+  -- n entries from o on are lent, and written over by z
+  module _ (w z : List A) (o n : ℕ) (fits : o + n ≤ length w) (size : length z ≡ n) where
+    pub lent-length : length (take o w ++ (z ++ drop n (drop o w))) ≡ length w
+    lent-length = simp (length-append, length-append, length-take, length-drop, length-drop) (omega arith)
+
+    pub lent-before : (b : ℕ) → b ≤ o → take b (take o w ++ (z ++ drop n (drop o w))) ≡ take b w
+    lent-before b h = take-append-le b (take o w) (z ++ drop n (drop o w)) (omega (arith, length-take-le o w (omega arith))) ∙ take-take b o w h
+
+    pub lent-behind : (b : ℕ) → o + n ≤ b → drop b (take o w ++ (z ++ drop n (drop o w))) ≡ drop b w
+    lent-behind b h =
+        ap (λ (i : ℕ). drop i (take o w ++ (z ++ drop n (drop o w)))) at
+        ∙ drop-append-add (take o w) (z ++ drop n (drop o w)) (length z + k)
+        ∙ drop-append-add z (drop n (drop o w)) k
+        ∙ ap (drop k) (drop-drop n o w)
+        ∙ drop-drop k (o + n) w
+        ∙ ap (λ (i : ℕ). drop i w) back
+      where
+        k : ℕ
+        k = b - (o + n)
+
+        at : b ≡ length (take o w) + (length z + (b - (o + n)))
+        at = omega (arith, length-take-le o w (omega arith))
+
+        back : o + n + (b - (o + n)) ≡ b
+        back = omega arith

@@ -1,5 +1,5 @@
 -- Tables without a bad word: each rule is a symbol or two rules before it (`shape`), and spells one symbol or what these two spell
--- (`symbol-string`, `pair-string`), as its first word tells (`symbol-word`, `pair-word`); no rule spells nothing (`string-filled`), and every
+-- (`symbol-string`, `pair-string`); no rule spells nothing (`string-filled`), and every
 -- symbol is a rank (`string-ranks`).
 use mathlib.Core.Path.{_≡_, refl, sym, _∙_, ap, ap₂, subst}
 use mathlib.Core.Bool.{Bool, true, false, cond, not, _&&_, _||_, or-false}
@@ -148,28 +148,6 @@ module _ (o : Order) (t : List ℕ) where
       (ap₂ {C = List ℕ} (λ x y. x ++ y)
       (sym (string-in r (ruleCount t) (numberOf (getD t (2 * r) 0)) u (omega arith)))
       (sym (string-in r (ruleCount t) (numberOf (getD t (2 * r + 1) 0)) v (omega arith))))
-
--- the first word tells the kinds apart: below 2 ^ 30 it is a symbol's, and else a pair's
-module _ (t : List ℕ) (r : ℕ) (s : Shaped t) (h : r < ruleCount t) where
-  pub symbol-word : getD t (2 * r) 0 < 2 ^ 30 → (getD t (2 * r) 0 < 257) × ((o : Order) → ruleString o t r ≡ rankOfNumber o (getD t (2 * r) 0) ∷ [])
-  unfolding kindOf numberOf
-  symbol-word l = go (shape t r s h)
-    where
-      same : getD t (2 * r) 0 % 2 ^ 30 ≡ getD t (2 * r) 0
-      same = omega arith
-
-      go : Shape t r → (getD t (2 * r) 0 < 257) × ((o : Order) → ruleString o t r ≡ rankOfNumber o (getD t (2 * r) 0) ∷ [])
-      go (one k n x y) = (omega arith, λ o. symbol-string o t r h k ∙ ap {B = List ℕ} (λ a. rankOfNumber o a ∷ []) same)
-      go (two k n x y) = absurd (omega arith)
-
-  pub pair-word : 2 ^ 30 ≤ getD t (2 * r) 0
-      → (kindOf (getD t (2 * r) 0) ≡ 1) × (numberOf (getD t (2 * r) 0) < r) × (numberOf (getD t (2 * r + 1) 0) < r)
-  unfolding kindOf
-  pair-word l = go (shape t r s h)
-    where
-      go : Shape t r → (getD t (2 * r) 0 / 2 ^ 30 ≡ 1) × (numberOf (getD t (2 * r) 0) < r) × (numberOf (getD t (2 * r + 1) 0) < r)
-      go (one k n x y) = absurd (omega arith)
-      go (two k n x y) = (k, n, y)
 
 -- what holds of every symbol that a rule may spell, and of two strings together where it holds of both, holds of every rule's string
 by-rules : (o : Order) (t : List ℕ) → Shaped t → (P : List ℕ → Type 0) → ((n : ℕ) → n < 257 → P (rankOfNumber o n ∷ []))

@@ -1,20 +1,19 @@
 -- What is printed, from the answers of the two steps: the line of a refusal, or the output of what comes next.
 use mathlib.Core.Path.{_≡_, refl}
 use mathlib.Core.Bool.{Bool, true, false, cond, true≢false}
-use mathlib.Core.List.{List, _++_}
+use mathlib.Core.List.{List, [], _∷_, _++_}
 use Prim.Native.Nat.{ℕ, _+_, _-_, _*_, _≤_, _<_}
 use native.Mathlib.Omega.{arith}
 use lib.ListN.{length, take, length-take, length-append}
 use lib.Dec.{ltb, eqb}
 use borrow.Author.Tests.{lt-ltb, ltb-false}
 use Rattle.definitions.specs.declared.Order.{Order}
-use Rattle.definitions.specs.declared.Order.the-variants.{Unsigned}
 use Rattle.definitions.specs.declared.Answer.{Answer}
 use Rattle.definitions.specs.declared.Answer.the-variants.{Done, Refused}
 use Rattle.definitions.specs.Table.{tableOf, ruleCount}
 use Rattle.definitions.specs.Occurrences.{occurrences}
-use Rattle.definitions.specs.Services.{firstMet, outcomeOf, outcome, resultAfter, patternChecks}
-use Rattle.definitions.specs.Programs.{named, decimalLines, refusedLine, printed, motifOf, driveOf, rulesName, foundName, foundLines, motifOutput}
+use Rattle.definitions.specs.Services.{Check, firstMet, Serves, Answers, textTooLong, sampleOrder, patternChecks}
+use Rattle.definitions.specs.Programs.{named, decimalLines, refusedLine, printed, motifOf, driveOf, inputTooLong, rulesName, foundName, foundLines, motifOutput}
 use Rattle.lines.specs.Lines.{refusal, refusalNumber}
 use Rattle.lines.proofs.Lines.{named-most, lines-most}
 use Rattle.motif.specs.Steps.{driveStep, motifStep, searchOutput, Built}
@@ -38,18 +37,21 @@ small false false m n h k = omega arith
 
 -- ---- the drive
 
-module _ (input : List ℕ) (r : Answer) (h : outcomeOf r ≡ outcome (driveStep Unsigned input)) where
+module _ (input : List ℕ) (r : Answer) (old table : List ℕ) (v : Serves (driveStep sampleOrder input old) (Answers r) (table ∷ [])) where
   abbrev t : List ℕ
-  t = tableOf Unsigned (driveOf input) 0
+  t = tableOf sampleOrder (driveOf input) 0
 
-  output : motifOutput Unsigned input ≡ printed (driveStep Unsigned input .checks) (searchOutput Unsigned input)
-  unfolding motifOutput searchOutput printed driveStep firstMet
+  abbrev driveChecks : List Check
+  driveChecks = inputTooLong input ∷ textTooLong (driveOf input) ∷ []
+
+  output : motifOutput sampleOrder input ≡ printed driveChecks (searchOutput sampleOrder input)
+  unfolding motifOutput searchOutput printed firstMet
   output = refl
 
-  pub drive-refused : (x y : ℕ) → r ≡ Refused x y → (refusalNumber r < 10000) × (refusal r ≡ motifOutput Unsigned input)
+  pub drive-refused : (x y : ℕ) → r ≡ Refused x y → (refusalNumber r < 10000) × (refusal r ≡ motifOutput sampleOrder input)
   unfolding driveStep firstMet
   drive-refused x y q =
-      refusal-printed (driveStep Unsigned input) (length t) refl r h x y q (searchOutput Unsigned input) (motifOutput Unsigned input) output
+      refusal-printed driveChecks t old table r v x y q (searchOutput sampleOrder input) (motifOutput sampleOrder input) output
       (small (ltb 4095 (length input)) (ltb 2047 (length (driveOf input))) 1 1 (omega arith) (omega arith))
 
   short : (a b : Bool) → cond a true (cond b true false) ≡ false → b ≡ false
@@ -57,39 +59,39 @@ module _ (input : List ℕ) (r : Answer) (h : outcomeOf r ≡ outcome (driveStep
   short false true e = e
   short false false e = refl
 
-  pub drive-done : (old table : List ℕ) (k : ℕ) → table ≡ resultAfter (driveStep Unsigned input) old → r ≡ Done k
-      → (k ≤ length table) × Built input (take (k - 0) table) × (searchOutput Unsigned input ≡ motifOutput Unsigned input)
+  pub drive-done : (k : ℕ) → r ≡ Done k
+      → (k ≤ length table) × Built input (take (k - 0) table) × (searchOutput sampleOrder input ≡ motifOutput sampleOrder input)
   unfolding driveStep firstMet
-  drive-done old table k e q =
-      let (fits, front) = success-written (driveStep Unsigned input) (length t) refl r h k q old table e refl in
-      let passed = success-passed (driveStep Unsigned input) (length t) refl r h k q in (
+  drive-done k q =
+      let (fits, front) = success-written driveChecks t old table r v k q in
+      let passed = success-passed driveChecks t old table r v k q in (
         fits,
         record { short = ltb-false 2047 (length (driveOf input)) (short (ltb 4095 (length input)) (ltb 2047 (length (driveOf input))) passed); table = front },
-        success-printed (driveStep Unsigned input) (length t) refl r h k q (searchOutput Unsigned input) (motifOutput Unsigned input) output,
+        success-printed driveChecks t old table r v k q (searchOutput sampleOrder input) (motifOutput sampleOrder input) output,
       )
 
 -- ---- the motif
 
-module _ (input : List ℕ) (r : Answer) (h : outcomeOf r ≡ outcome (motifStep input)) where
+module _ (input : List ℕ) (r : Answer) (old positions : List ℕ) (v : Serves (motifStep input old) (Answers r) (positions ∷ [])) where
   abbrev finds : List ℕ
   finds = occurrences (motifOf input) (driveOf input)
 
   abbrev l : List ℕ
-  l = named rulesName (ruleCount (tableOf Unsigned (driveOf input) 0)) ++ foundLines (occurrences (motifOf input) (driveOf input))
+  l = named rulesName (ruleCount (tableOf sampleOrder (driveOf input) 0)) ++ foundLines (occurrences (motifOf input) (driveOf input))
 
-  found-output : searchOutput Unsigned input ≡ printed (motifStep input .checks) l
-  unfolding searchOutput motifStep
+  found-output : searchOutput sampleOrder input ≡ printed (patternChecks (motifOf input)) l
+  unfolding searchOutput
   found-output = refl
 
-  pub motif-refused : (x y : ℕ) → r ≡ Refused x y → (refusalNumber r < 10000) × (refusal r ≡ searchOutput Unsigned input)
+  pub motif-refused : (x y : ℕ) → r ≡ Refused x y → (refusalNumber r < 10000) × (refusal r ≡ searchOutput sampleOrder input)
   unfolding motifStep patternChecks firstMet
   motif-refused x y q =
-      refusal-printed (motifStep input) (length finds) refl r h x y q l (searchOutput Unsigned input) found-output
+      refusal-printed (patternChecks (motifOf input)) finds old positions r v x y q l (searchOutput sampleOrder input) found-output
       (small (eqb (length (motifOf input)) 0) (ltb 2047 (length (motifOf input))) 2 3 (omega arith) (omega arith))
 
-  pub motif-done : (old positions : List ℕ) (k : ℕ) → positions ≡ resultAfter (motifStep input) old → r ≡ Done k
-      → (k ≤ length positions) × (take (k - 0) positions ≡ occurrences (motifOf input) (driveOf input)) × (l ≡ searchOutput Unsigned input)
+  pub motif-done : (k : ℕ) → r ≡ Done k
+      → (k ≤ length positions) × (take (k - 0) positions ≡ occurrences (motifOf input) (driveOf input)) × (l ≡ searchOutput sampleOrder input)
   unfolding motifStep
-  motif-done old positions k e q =
-      let (fits, front) = success-written (motifStep input) (length finds) refl r h k q old positions e refl in
-      (fits, front, success-printed (motifStep input) (length finds) refl r h k q l (searchOutput Unsigned input) found-output)
+  motif-done k q =
+      let (fits, front) = success-written (patternChecks (motifOf input)) finds old positions r v k q in
+      (fits, front, success-printed (patternChecks (motifOf input)) finds old positions r v k q l (searchOutput sampleOrder input) found-output)

@@ -1,18 +1,21 @@
 -- What the services answer on the input's drive and motif is what the steps of the program say.
 use mathlib.Core.Path.{_≡_, refl, _∙_, ap, ap₂}
 use mathlib.Core.Bool.{Bool, true, false}
-use mathlib.Core.List.{List}
+use mathlib.Core.List.{List, [], _∷_}
 use Prim.Native.Nat.{ℕ, _≤_, _<_}
 use native.Mathlib.Omega.{arith}
 use lib.ListN.{length, getD}
 use lib.Dec.{ltb, eqb}
 use borrow.Author.Tests.{lt-ltb, le-ltb, ltb-false, eqb-false}
 use Rattle.definitions.specs.declared.Order.{Order}
+use Rattle.definitions.specs.declared.Answer.{Answer}
 use Rattle.definitions.specs.declared.Answer.the-variants.{Refused}
 use Rattle.definitions.specs.Table.{tableOf}
 use Rattle.definitions.specs.Occurrences.{occurrences}
-use Rattle.definitions.specs.Services.{Outcome, firstMet, outcomeOf, outcome, resultAfter, patternChecks, tableChecks, buildService, locateService}
-use Rattle.definitions.specs.Programs.{motifOf, driveOf}
+use Rattle.definitions.specs.Services.{Outcome, firstMet, outcomeOf, outcome, slicesAfter, Serves, Answers, patternChecks, tableChecks, buildService, locateService}
+use Rattle.definitions.specs.Programs.{motifOf, driveOf, inputTooLong}
+use Rattle.lists.specs.Decisions.{met}
+use Rattle.lists.specs.Serving.{refused-by}
 use Rattle.lists.specs.Members.{at-in}
 use Rattle.lyndon.specs.Ranks.{Bytes}
 use Rattle.lyndon.specs.Occurrences.{occurrence, occurrences-fewer}
@@ -30,39 +33,39 @@ finds-small p s h i k = omega (arith, occurrence p s (getD (occurrences p s) i 0
 -- ---- the drive
 
 module _ (o : Order) (input : List ℕ) where
-  pub drive-long : (old : List ℕ) → 4095 < length input → (outcomeOf (Refused 1 0) ≡ outcome (driveStep o input)) × (old ≡ resultAfter (driveStep o input) old)
-  unfolding outcomeOf outcome resultAfter driveStep firstMet
-  drive-long old h = (rw (lt-ltb 4095 (length input) h), rw (lt-ltb 4095 (length input) h))
+  pub drive-long : (old : List ℕ) → 4095 < length input → Serves (driveStep o input old) (Answers (Refused 1 0)) (old ∷ [])
+  unfolding outcomeOf driveStep
+  drive-long old h = refused-by (inputTooLong input) (met (lt-ltb 4095 (length input) h)) refl refl
 
-  module _ (old : List ℕ) (n : ℕ) (work : 16384 ≤ n) (room : 4608 ≤ length old) (h : length input ≤ 4095) (b : Bytes (driveOf input)) where
+  module _ (old work : List ℕ) (long : 16384 ≤ length work) (room : 4608 ≤ length old) (h : length input ≤ 4095) (b : Bytes (driveOf input)) where
     built : (m : Bool) → ltb 2047 (length (driveOf input)) ≡ m
-        → (outcome (buildService o (driveOf input) 0 n (length old)) ≡ outcome (driveStep o input))
-        × (resultAfter (buildService o (driveOf input) 0 n (length old)) old ≡ resultAfter (driveStep o input) old)
-    unfolding outcome resultAfter buildService driveStep firstMet
+        → (outcome (buildService o (driveOf input) 0 work old) ≡ outcome (driveStep o input old))
+        × (getD (slicesAfter (buildService o (driveOf input) 0 work old)) 1 [] ∷ [] ≡ slicesAfter (driveStep o input old))
+    unfolding outcome slicesAfter buildService driveStep firstMet
     built true q = (rw (le-ltb 4095 (length input) h, q), rw (le-ltb 4095 (length input) h, q))
     built false q =
         let size = table-size o (driveOf input) 0 (stored (driveOf input) (ltb-false 2047 (length (driveOf input)) q) b) in
         let fits : length (tableOf o (driveOf input) 0) ≤ length old = omega arith in (
-          rw (le-ltb 4095 (length input) h, q, le-ltb n 16384 work, le-ltb (length old) (length (tableOf o (driveOf input) 0)) fits),
-          rw (le-ltb 4095 (length input) h, q, le-ltb n 16384 work, le-ltb (length old) (length (tableOf o (driveOf input) 0)) fits),
+          rw (le-ltb 4095 (length input) h, q, le-ltb (length work) 16384 long, le-ltb (length old) (length (tableOf o (driveOf input) 0)) fits),
+          rw (le-ltb 4095 (length input) h, q, le-ltb (length work) 16384 long, le-ltb (length old) (length (tableOf o (driveOf input) 0)) fits),
         )
 
-    pub drive-built : (text new : List ℕ) (r : Outcome) → text ≡ driveOf input
-        → r ≡ outcome (buildService o text 0 n (length old)) → new ≡ resultAfter (buildService o text 0 n (length old)) old
-        → (r ≡ outcome (driveStep o input)) × (new ≡ resultAfter (driveStep o input) old)
-    drive-built text new r e f g =
-        let (answer, table) = built (ltb 2047 (length (driveOf input))) refl in (
-          f ∙ ap (λ (x : List ℕ). outcome (buildService o x 0 n (length old))) e ∙ answer,
-          g ∙ ap (λ (x : List ℕ). resultAfter (buildService o x 0 n (length old)) old) e ∙ table,
-        )
+    pub drive-built : (text work′ new : List ℕ) (r : Answer) → text ≡ driveOf input
+        → Serves (buildService o text 0 work old) (Answers r) (work′ ∷ new ∷ []) → Serves (driveStep o input old) (Answers r) (new ∷ [])
+    drive-built text work′ new r e v =
+        let (answer, table) = built (ltb 2047 (length (driveOf input))) refl in
+        record {
+          answer = v .answer ∙ ap (λ (x : List ℕ). outcome (buildService o x 0 work old)) e ∙ answer;
+          slices = ap (λ (l : List (List ℕ)). getD l 1 [] ∷ []) (v .slices ∙ ap (λ (x : List ℕ). slicesAfter (buildService o x 0 work old)) e) ∙ table;
+        }
 
 -- ---- the motif
 
-module _ (o : Order) (input old : List ℕ) (n : ℕ) (work : 16384 ≤ n) (room : 2047 ≤ length old) (ok : Stored (driveOf input) 0) where
+module _ (o : Order) (input old work : List ℕ) (long : 16384 ≤ length work) (room : 2047 ≤ length old) (ok : Stored (driveOf input) 0) where
   located : (a b : Bool) → eqb (length (motifOf input)) 0 ≡ a → ltb 2047 (length (motifOf input)) ≡ b
-      → (outcome (locateService o (tableOf o (driveOf input) 0) (motifOf input) n (length old)) ≡ outcome (motifStep input))
-      × (resultAfter (locateService o (tableOf o (driveOf input) 0) (motifOf input) n (length old)) old ≡ resultAfter (motifStep input) old)
-  unfolding outcome resultAfter locateService motifStep patternChecks tableChecks firstMet
+      → (outcome (locateService o (tableOf o (driveOf input) 0) (motifOf input) work old) ≡ outcome (motifStep input old))
+      × (getD (slicesAfter (locateService o (tableOf o (driveOf input) 0) (motifOf input) work old)) 1 [] ∷ [] ≡ slicesAfter (motifStep input old))
+  unfolding outcome slicesAfter locateService motifStep patternChecks tableChecks firstMet
   located true b q r = (rw q, rw q)
   located false true q r = (rw (q, r), rw (q, r))
   located false false q r =
@@ -71,15 +74,15 @@ module _ (o : Order) (input old : List ℕ) (n : ℕ) (work : 16384 ≤ n) (room
       let some : length (motifOf input) ≡ 0 → ⊥ = eqb-false (length (motifOf input)) 0 q in
       let fits : length finds ≤ length old = omega (arith, occurrences-fewer (motifOf input) (driveOf input) (omega arith), ok .short) in
       let accepted : Acceptable o t = passes o t .1 (driveOf input, 0, ok, refl) in (
-        rw (q, r, le-ltb n 16384 work, accepted .0, accepted .1, accepted .2, table-text o (driveOf input) 0 ok, le-ltb (length old) (length finds) fits),
-        rw (q, r, le-ltb n 16384 work, accepted .0, accepted .1, accepted .2, table-text o (driveOf input) 0 ok, le-ltb (length old) (length finds) fits),
+        rw (q, r, le-ltb (length work) 16384 long, accepted .0, accepted .1, accepted .2, table-text o (driveOf input) 0 ok, le-ltb (length old) (length finds) fits),
+        rw (q, r, le-ltb (length work) 16384 long, accepted .0, accepted .1, accepted .2, table-text o (driveOf input) 0 ok, le-ltb (length old) (length finds) fits),
       )
 
-  pub motif-located : (t p new : List ℕ) (r : Outcome) → t ≡ tableOf o (driveOf input) 0 → p ≡ motifOf input
-      → r ≡ outcome (locateService o t p n (length old)) → new ≡ resultAfter (locateService o t p n (length old)) old
-      → (r ≡ outcome (motifStep input)) × (new ≡ resultAfter (motifStep input) old)
-  motif-located t p new r d e f g =
-      let (answer, positions) = located (eqb (length (motifOf input)) 0) (ltb 2047 (length (motifOf input))) refl refl in (
-        f ∙ ap₂ {C = Outcome} (λ x y. outcome (locateService o x y n (length old))) d e ∙ answer,
-        g ∙ ap₂ {C = List ℕ} (λ x y. resultAfter (locateService o x y n (length old)) old) d e ∙ positions,
-      )
+  pub motif-located : (t p work′ new : List ℕ) (r : Answer) → t ≡ tableOf o (driveOf input) 0 → p ≡ motifOf input
+      → Serves (locateService o t p work old) (Answers r) (work′ ∷ new ∷ []) → Serves (motifStep input old) (Answers r) (new ∷ [])
+  motif-located t p work′ new r d e v =
+      let (answer, positions) = located (eqb (length (motifOf input)) 0) (ltb 2047 (length (motifOf input))) refl refl in
+      record {
+        answer = v .answer ∙ ap₂ {C = Outcome} (λ x y. outcome (locateService o x y work old)) d e ∙ answer;
+        slices = ap (λ (l : List (List ℕ)). getD l 1 [] ∷ []) (v .slices ∙ ap₂ {C = List (List ℕ)} (λ x y. slicesAfter (locateService o x y work old)) d e) ∙ positions;
+      }

@@ -4,21 +4,20 @@ use mathlib.Core.Path.{_≡_}
 use Prim.Native.Nat.{ℕ, _≤_}
 use lib.ListN.{length}
 use Rattle.definitions.specs.declared.Order.{Order}
-use Rattle.definitions.specs.declared.Order.the-variants.{Unsigned}
 use Rattle.definitions.specs.Table.{tableOf, ruleCount}
 use Rattle.definitions.specs.Occurrences.{occurrences}
-use Rattle.definitions.specs.Services.{Service, done, textTooLong, patternChecks}
+use Rattle.definitions.specs.Services.{Service, done, resultSlice, textTooLong, sampleOrder, patternChecks}
 use Rattle.definitions.specs.Programs.{named, printed, motifOf, driveOf, inputTooLong, rulesName, foundLines}
 
-unfoldable pub driveStep : Order → List ℕ → Service
-driveStep o input =
+unfoldable pub driveStep : Order → List ℕ → List ℕ → Service
+driveStep o input table =
     let t = tableOf o (driveOf input) 0 in
-    record { checks = inputTooLong input ∷ textTooLong (driveOf input) ∷ []; success = done (length t) 0; written = t }
+    record { checks = inputTooLong input ∷ textTooLong (driveOf input) ∷ []; success = done (length t) 0; lent = resultSlice t table ∷ [] }
 
-unfoldable pub motifStep : List ℕ → Service
-motifStep input =
+unfoldable pub motifStep : List ℕ → List ℕ → Service
+motifStep input positions =
     let finds = occurrences (motifOf input) (driveOf input) in
-    record { checks = patternChecks (motifOf input); success = done (length finds) 0; written = finds }
+    record { checks = patternChecks (motifOf input); success = done (length finds) 0; lent = resultSlice finds positions ∷ [] }
 
 -- what is printed once the table is built
 unfoldable pub searchOutput : Order → List ℕ → List ℕ
@@ -29,4 +28,4 @@ searchOutput o input =
 -- the table of the input's drive is built
 pub record Built (input t : List ℕ) : Type 0 where
   pub short : length (driveOf input) ≤ 2047
-  pub table : t ≡ tableOf Unsigned (driveOf input) 0
+  pub table : t ≡ tableOf sampleOrder (driveOf input) 0

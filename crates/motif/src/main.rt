@@ -8,12 +8,11 @@ use lines::put_decimal_lines;
 use lines::put_named;
 use lines::put_refusal;
 ghost use mathlib.Core.Path.{_≡_};
-ghost use mathlib.Core.List.{_++_};
+ghost use mathlib.Core.List.{[], _∷_, _++_};
 ghost use Prim.Native.Nat.{_+_, _*_, _≤_, _<_};
 ghost use lib.ListN.{length, drop};
-ghost use Rattle.definitions.specs.declared.Order.the-variants.{Unsigned};
 ghost use Rattle.definitions.specs.Words.{placed};
-ghost use Rattle.definitions.specs.Services.{outcomeOf, outcome, resultAfter};
+ghost use Rattle.definitions.specs.Services.{Serves, Answers, sampleOrder};
 ghost use Rattle.definitions.specs.Programs.{named, motifOf, driveOf, rulesName, foundLines, motifOutput};
 ghost use Rattle.lines.specs.Lines.{Small};
 ghost use Rattle.motif.specs.Steps.{driveStep, motifStep, Built, searchOutput};
@@ -82,8 +81,8 @@ fn answer(
     out: &mut [u8],
 ) -> usize
     requires { ⌜ (16384 ≤ length (now work)) × (4608 ≤ length (now table)) × (2047 ≤ length (now positions)) × (16384 ≤ length (now out)) ⌝ }
-    ensures { λ n. ⌜ n ≡ length (motifOutput Unsigned (now (input .entry))) ⌝ }
-    ensures { λ _. ⌜ now (out .exit) ≡ placed (motifOutput Unsigned (now (input .entry))) (now (out .entry)) ⌝ }
+    ensures { λ n. ⌜ n ≡ length (motifOutput sampleOrder (now (input .entry))) ⌝ }
+    ensures { λ _. ⌜ now (out .exit) ≡ placed (motifOutput sampleOrder (now (input .entry))) (now (out .entry)) ⌝ }
 {
     let a = build_drive(input, work, table);
     let Answer::Done(words) = a else {
@@ -101,8 +100,8 @@ fn answer_built(
     out: &mut [u8],
 ) -> usize
     requires { ⌜ Built (now input) (now table) × (16384 ≤ length (now work)) × (2047 ≤ length (now positions)) × (16384 ≤ length (now out)) ⌝ }
-    ensures { λ n. ⌜ n ≡ length (searchOutput Unsigned (now (input .entry))) ⌝ }
-    ensures { λ _. ⌜ now (out .exit) ≡ placed (searchOutput Unsigned (now (input .entry))) (now (out .entry)) ⌝ }
+    ensures { λ n. ⌜ n ≡ length (searchOutput sampleOrder (now (input .entry))) ⌝ }
+    ensures { λ _. ⌜ now (out .exit) ≡ placed (searchOutput sampleOrder (now (input .entry))) (now (out .entry)) ⌝ }
 {
     let a = locate_motif(input, table, work, positions);
     let Answer::Done(n) = a else {
@@ -114,8 +113,7 @@ fn answer_built(
 // Builds the drive's table. Refuses by 1.
 fn build_drive(input: &[u8], work: &mut [u32], table: &mut [u32]) -> Answer
     requires { ⌜ (16384 ≤ length (now work)) × (4608 ≤ length (now table)) ⌝ }
-    ensures { λ r. ⌜ outcomeOf r ≡ outcome (driveStep Unsigned (now (input .entry))) ⌝ }
-    ensures { λ _. ⌜ now (table .exit) ≡ resultAfter (driveStep Unsigned (now (input .entry))) (now (table .entry)) ⌝ }
+    ensures { λ r. ⌜ Serves (driveStep sampleOrder (now (input .entry)) (now (table .entry))) (Answers r) (now (table .exit) ∷ []) ⌝ }
 {
     if 4095 < input.len() {
         return Answer::Refused(1, 0);
@@ -127,8 +125,7 @@ fn build_drive(input: &[u8], work: &mut [u32], table: &mut [u32]) -> Answer
 // Lists where the motif begins in the drive, whose table is handed over. Refuses by 2 and 3.
 fn locate_motif(input: &[u8], table: &[u32], work: &mut [u32], positions: &mut [u32]) -> Answer
     requires { ⌜ Built (now input) (now table) × (16384 ≤ length (now work)) × (2047 ≤ length (now positions)) ⌝ }
-    ensures { λ r. ⌜ outcomeOf r ≡ outcome (motifStep (now (input .entry))) ⌝ }
-    ensures { λ _. ⌜ now (positions .exit) ≡ resultAfter (motifStep (now (input .entry))) (now (positions .entry)) ⌝ }
+    ensures { λ r. ⌜ Serves (motifStep (now (input .entry)) (now (positions .entry))) (Answers r) (now (positions .exit) ∷ []) ⌝ }
 {
     let end = motif_length(input);
     let found = index::locate(table, &input[0..end], work, positions);

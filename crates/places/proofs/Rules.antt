@@ -1,76 +1,50 @@
--- The rules in the table area, by their words: a symbol (`symbol-length`, `symbol-half`) or two halves before it (`pair-halves`).
--- The area holds the table, whose words are none of them bad; a store outside it changes nothing that is kept (`kept-set`).
-use mathlib.Core.Path.{_≡_, sym, _∙_, ap}
-use mathlib.Core.Logic.{_⊎_, inl, inr, ⊎-elim}
-use mathlib.Core.List.{List, _++_}
-use Prim.Native.Nat.{ℕ, suc, _+_, _*_, _%_, _≤_, _<_}
+-- The rules in the table area, as they are read: a symbol (`kept-symbol`), which has no halves (`no-half`), or a pair (`kept-pair`), which has no
+-- other halves than its own (`own-half`). A store outside the area changes nothing that is kept (`kept-set`).
+use mathlib.Core.Path.{_≡_, _∙_}
+use mathlib.Core.Logic.{_⊎_, inl, inr}
+use mathlib.Core.List.{List}
+use Prim.Native.Nat.{ℕ, suc, _≤_, _<_}
 use native.Mathlib.Omega.{arith}
-use lib.ListN.{length, getD, set, length-set}
-use Rattle.definitions.specs.declared.Order.{Order}
-use Rattle.definitions.specs.Table.{kindOf, numberOf, tableOf, ruleString, ruleCount}
-use Rattle.lists.specs.Parts.{part-at, part-set-before, part-set-behind}
-use Rattle.lyndon.specs.Reading.{table-length}
-use Rattle.lyndon.specs.Shapes.{Shaped, pair-string, symbol-word, pair-word, stored-shaped}
-use Rattle.layout.specs.Layout.{TABLE, KIND}
+use lib.ListN.{length, set, length-set}
+use Rattle.definitions.specs.Table.{tableOf}
+use Rattle.lists.specs.Parts.{part-set-before, part-set-behind}
+use Rattle.lyndon.specs.Reading.{table-size}
+use Rattle.lyndon.specs.Shapes.{Shaped, stored-shaped}
+use Rattle.layout.specs.Layout.{TABLE}
+use Rattle.decoding.specs.declared.Rule.the-variants.{Symbol, Pair}
+use Rattle.decoding.specs.Decoding.{ruleAt, ruleIn}
+use Rattle.decoding.proofs.Rules.{SymbolOf, PairOf, rule-loaded, symbol-loaded, pair-loaded}
 use Rattle.places.specs.Places.{Kept}
-use Rattle.places.specs.Passes.{Source, tableIn, rulesIn, Half}
+use Rattle.places.specs.Passes.{Contents, tableIn, rulesIn, Half, left, right}
 
--- ---- rules of a table without a bad word
+-- ---- halves
 
--- rule r spells what u spells and then what v spells
-pub record PairOf (o : Order) (t : List ℕ) (r u v : ℕ) : Type 0 where
-  pub left : u < r
-  pub right : v < r
-  pub string : ruleString o t r ≡ ruleString o t u ++ ruleString o t v
-  pub only : (q : ℕ) → Half t r q → (q ≡ u) ⊎ (q ≡ v)
+pub no-half : (t : List ℕ) (r a b q : ℕ) → ruleAt t r ≡ Symbol a b → Half t r q → ⊥
+no-half t r a b q e (left v f) = let z : _≡_ {A = ℕ} 0 1 = cc in omega arith
+no-half t r a b q e (right u f) = let z : _≡_ {A = ℕ} 0 1 = cc in omega arith
 
-module _ (o : Order) (t : List ℕ) (s : Shaped t) (r : ℕ) (h : r < ruleCount t) where
-  symbol-one : getD t (2 * r) 0 < KIND → length (ruleString o t r) ≡ 1
-  symbol-one l = ap length (symbol-word t r s h l .1 o)
+pub own-half : (t : List ℕ) (r u v q : ℕ) → ruleAt t r ≡ Pair u v → Half t r q → (q ≡ u) ⊎ (q ≡ v)
+own-half t r u v q e (left y f) = inl cc
+own-half t r u v q e (right y f) = inr cc
 
-  symbol-none : getD t (2 * r) 0 < KIND → (q : ℕ) → Half t r q → ⊥
-  unfolding kindOf
-  symbol-none l q (k, e) = omega arith
+-- ---- the table that is loaded
 
-  pair-two : KIND ≤ getD t (2 * r) 0 → PairOf o t r (getD t (2 * r) 0 % KIND) (getD t (2 * r + 1) 0 % KIND)
-  unfolding numberOf
-  pair-two l =
-      let (k, u, v) = pair-word t r s h l in
-      record {
-        left = u;
-        right = v;
-        string = pair-string o t r h k u v;
-        only = λ q e. ⊎-elim (λ p. inl (sym p)) (λ p. inr (sym p)) (e .1);
-      }
-
--- ---- the same in the table area
-
-module _ (g : Source) (w : List ℕ) (k : Kept (g .order) (g .text) (g .chair) w) where
-  word-at : (i : ℕ) → i < length (tableOf (g .order) (g .text) (g .chair)) → getD w (TABLE + i) 0 ≡ getD (tableOf (g .order) (g .text) (g .chair)) i 0
-  word-at i h =
-      sym (part-at TABLE (length (tableOf (g .order) (g .text) (g .chair))) w i 0 h)
-      ∙ ap (λ (l : List ℕ). getD l i 0) (k .table)
-
+module _ (g : Contents) (w : List ℕ) (k : Kept (g .order) (g .text) (g .chair) w) where
   module _ (r : ℕ) (h : r < rulesIn g) where
-    pub first-word : getD w (TABLE + 2 * r) 0 ≡ getD (tableIn g) (2 * r) 0
-    first-word = word-at (2 * r) (omega (arith, table-length (g .order) (g .text) (g .chair) (k .stored)))
+    shaped : Shaped (tableIn g)
+    shaped = stored-shaped (g .order) (g .text) (g .chair) (k .stored)
 
-    pub second-word : getD w (TABLE + 2 * r + 1) 0 ≡ getD (tableIn g) (2 * r + 1) 0
-    second-word =
-        let e : TABLE + 2 * r + 1 ≡ TABLE + (2 * r + 1) = omega arith in
-        ap (λ (i : ℕ). getD w i 0) e ∙ word-at (2 * r + 1) (omega (arith, table-length (g .order) (g .text) (g .chair) (k .stored)))
+    size : length (tableIn g) ≤ 4608
+    size = table-size (g .order) (g .text) (g .chair) (k .stored)
 
-    pub symbol-length : getD w (TABLE + 2 * r) 0 < KIND → length (ruleString (g .order) (tableIn g) r) ≡ 1
-    symbol-length l = symbol-one (g .order) (tableIn g) (stored-shaped (g .order) (g .text) (g .chair) (k .stored)) r h (rw first-word at l)
+    pub kept-rule : ruleIn w r ≡ ruleAt (tableIn g) r
+    kept-rule = rule-loaded (tableIn g) w r (k .table) shaped size h
 
-    pub symbol-half : getD w (TABLE + 2 * r) 0 < KIND → (q : ℕ) → Half (tableIn g) r q → ⊥
-    symbol-half l = symbol-none (g .order) (tableIn g) (stored-shaped (g .order) (g .text) (g .chair) (k .stored)) r h (rw first-word at l)
+    pub kept-symbol : (a b : ℕ) → ruleIn w r ≡ Symbol a b → SymbolOf (tableIn g) r a b
+    kept-symbol = symbol-loaded (tableIn g) w r (k .table) shaped size h
 
-    pub pair-halves : (u v : ℕ) → u ≡ getD w (TABLE + 2 * r) 0 % KIND → v ≡ getD w (TABLE + 2 * r + 1) 0 % KIND
-        → KIND ≤ getD w (TABLE + 2 * r) 0 → PairOf (g .order) (tableIn g) r u v
-    pair-halves u v e f l =
-        rw (e, f, first-word, second-word)
-        (pair-two (g .order) (tableIn g) (stored-shaped (g .order) (g .text) (g .chair) (k .stored)) r h (rw first-word at l))
+    pub kept-pair : (u v : ℕ) → ruleIn w r ≡ Pair u v → PairOf (tableIn g) r u v
+    kept-pair = pair-loaded (tableIn g) w r (k .table) shaped size h
 
   -- a store between ranks and table
   pub kept-set : (j x : ℕ) → 2048 ≤ j → j < TABLE → Kept (g .order) (g .text) (g .chair) (set w j x)

@@ -12,29 +12,30 @@ use Rattle.lyndon.specs.Ranks.{marked-length}
 use Rattle.lyndon.specs.Reading.{rule-range}
 use Rattle.layout.specs.Layout.{TABLE, LENGTHS, PLACES, lengthIn}
 use Rattle.grammar.specs.Loaded.{Ready}
-use Rattle.places.specs.Passes.{Source, tableIn, rulesIn, Sizing}
+use Rattle.places.specs.Passes.{Contents, tableIn, rulesIn, Sizing}
 use Rattle.places.proofs.Strings.{string-short}
-use Rattle.places.proofs.Rules.{PairOf, kept-set}
+use Rattle.decoding.proofs.Rules.{PairOf}
+use Rattle.places.proofs.Rules.{kept-set}
 
 -- what is loaded
-abbrev pub source : (w : List ℕ) → Ready w → Source
-source w h = record { order = h .order; text = h .text; chair = h .chair }
+abbrev pub contents : (w : List ℕ) → Ready w → Contents
+contents w h = record { order = h .order; text = h .text; chair = h .chair }
 
 -- no length is known yet
-pub size-start : (w : List ℕ) (h : Ready w) → Sizing (source w h) 0 w
+pub size-start : (w : List ℕ) (h : Ready w) → Sizing (contents w h) 0 w
 size-start w h = record {
   most = rule-range (h .order) (h .text) (h .chair) (h .stored) .1;
   kept = record { long = h .loaded .long; stored = h .stored; ranks = h .loaded .ranks; table = h .loaded .table };
   sizes = λ r l. absurd (omega arith);
 }
 
-module _ (g : Source) (w : List ℕ) (r : ℕ) (s : Sizing g r w) (h : r < rulesIn g) where
+module _ (g : Contents) (w : List ℕ) (r : ℕ) (s : Sizing g r w) (h : r < rulesIn g) where
   -- a pair is as long as its halves together, and no longer than the marked text
-  pub pair-length : (u v : ℕ) → PairOf (g .order) (tableIn g) r u v
+  pub pair-length : (u v : ℕ) → PairOf (tableIn g) r u v
       → (lengthIn w u + lengthIn w v ≡ length (ruleString (g .order) (tableIn g) r)) × (length (ruleString (g .order) (tableIn g) r) ≤ 2048)
   pair-length u v p = (
     ap₂ {C = ℕ} (λ a b. a + b) (s .sizes u (p .left)) (s .sizes v (p .right))
-        ∙ sym (ap length (p .string) ∙ length-append (ruleString (g .order) (tableIn g) u) (ruleString (g .order) (tableIn g) v)),
+        ∙ sym (ap length (p .string (g .order)) ∙ length-append (ruleString (g .order) (tableIn g) u) (ruleString (g .order) (tableIn g) v)),
     omega (arith, string-short (g .order) (g .text) (g .chair) (s .kept .stored) r h, marked-length (g .order) (g .text), s .kept .stored .short),
   )
 
@@ -51,7 +52,7 @@ module _ (g : Source) (w : List ℕ) (r : ℕ) (s : Sizing g r w) (h : r < rules
       }
 
 -- a store behind the lengths
-pub sizing-set : (g : Source) (w : List ℕ) (j x : ℕ) → Sizing g (rulesIn g) w → PLACES ≤ j → j < TABLE → Sizing g (rulesIn g) (set w j x)
+pub sizing-set : (g : Contents) (w : List ℕ) (j x : ℕ) → Sizing g (rulesIn g) w → PLACES ≤ j → j < TABLE → Sizing g (rulesIn g) (set w j x)
 sizing-set g w j x s a b =
     let most = s .most in
     record {

@@ -16,9 +16,12 @@ use Rattle.lyndon.specs.Ranks.{marked-length}
 use Rattle.lyndon.specs.Reading.{rule-range}
 use Rattle.layout.specs.Layout.{PLACES, lengthIn, placeIn}
 use Rattle.places.specs.Places.{StandsAt, Placed}
-use Rattle.places.specs.Passes.{Source, tableIn, rulesIn, Half, Stands, Sizing, Placing}
+use Rattle.places.specs.Passes.{Contents, tableIn, rulesIn, Half, StandsIn, Stands, Sizing, Placing}
 use Rattle.places.proofs.Strings.{root-string, later-half}
-use Rattle.places.proofs.Rules.{PairOf}
+use Rattle.decoding.specs.declared.Rule.the-variants.{Symbol, Pair}
+use Rattle.decoding.specs.Decoding.{ruleIn}
+use Rattle.decoding.proofs.Rules.{PairOf}
+use Rattle.places.proofs.Rules.{no-half, own-half, kept-rule, kept-pair}
 use Rattle.places.proofs.Sizes.{sizing-set}
 
 -- ---- places of strings
@@ -28,7 +31,7 @@ unfolding part
 whole-part s = take-length s
 
 -- where a pair stands stands its left half, and behind that its right half
-halves-stand : (o : Order) (t s : List ℕ) (r u v x : ℕ) → ruleString o t r ≡ ruleString o t u ++ ruleString o t v → StandsAt o t s r x
+pub halves-stand : (o : Order) (t s : List ℕ) (r u v x : ℕ) → ruleString o t r ≡ ruleString o t u ++ ruleString o t v → StandsAt o t s r x
     → StandsAt o t s u x × StandsAt o t s v (x + length (ruleString o t u))
 halves-stand o t s r u v x e p =
     let size = ap length e ∙ length-append (ruleString o t u) (ruleString o t v) in
@@ -51,20 +54,20 @@ halves-stand o t s r u v x e p =
 
 -- ---- a right place is stored
 
-module _ (g : Source) (w : List ℕ) (q x : ℕ) (h : PLACES + q < length w) (p : StandsAt (g .order) (tableIn g) (marked (g .order) (g .text)) q x) where
+module _ (g : Contents) (w : List ℕ) (q x : ℕ) (h : PLACES + q < length w) (p : StandsIn g q x) where
   stands-stored : Stands g (set w (PLACES + q) x) q
-  stands-stored = subst (λ (y : ℕ). StandsAt (g .order) (tableIn g) (marked (g .order) (g .text)) q y) (sym (getD-set-same w (PLACES + q) x 0 h)) p
+  stands-stored = subst (StandsIn g q) (sym (getD-set-same w (PLACES + q) x 0 h)) p
 
   stands-kept : (r : ℕ) → Stands g w r → Stands g (set w (PLACES + q) x) r
   stands-kept r k = split-lt r q
       (λ l. other (λ z. omega arith))
-      (λ e. subst (λ (y : ℕ). Stands g (set w (PLACES + q) x) y) (sym e) stands-stored)
+      (λ e. subst (Stands g (set w (PLACES + q) x)) (sym e) stands-stored)
       (λ l. other (λ z. omega arith))
     where
       other : (PLACES + r ≡ PLACES + q → ⊥) → Stands g (set w (PLACES + q) x) r
-      other d = subst (λ (y : ℕ). StandsAt (g .order) (tableIn g) (marked (g .order) (g .text)) r y) (sym (getD-set-other w (PLACES + q) (PLACES + r) x 0 d)) k
+      other d = subst (StandsIn g r) (sym (getD-set-other w (PLACES + q) (PLACES + r) x 0 d)) k
 
-placing-set : (g : Source) (w : List ℕ) (n q x : ℕ) → Placing g n w → q < rulesIn g → StandsAt (g .order) (tableIn g) (marked (g .order) (g .text)) q x
+placing-set : (g : Contents) (w : List ℕ) (n q x : ℕ) → Placing g n w → q < rulesIn g → StandsIn g q x
     → Placing g n (set w (PLACES + q) x) × Stands g (set w (PLACES + q) x) q
 placing-set g w n q x k l p =
     let most = k .sizing .most in
@@ -80,41 +83,51 @@ placing-set g w n q x k l p =
 -- ---- the steps
 
 -- a rule is the root or a half of a later one
-reached : (g : Source) (w : List ℕ) (n r : ℕ) → Placing g n w → n ≤ suc r → r < rulesIn g → Stands g w r
+reached : (g : Contents) (w : List ℕ) (n r : ℕ) → Placing g n w → n ≤ suc r → r < rulesIn g → Stands g w r
 reached g w n r k l h = split-lt (suc r) (rulesIn g)
     (λ m. let (i, a, b, c) = later-half (g .order) (g .text) (g .chair) (k .sizing .kept .stored) r m in k .halves i r (omega arith) b c)
-    (λ m. let last : rulesIn g - 1 ≡ r = omega arith in subst (λ (y : ℕ). Stands g w y) last (k .root))
+    (λ m. let last : rulesIn g - 1 ≡ r = omega arith in subst (Stands g w) last (k .root))
     (λ m. absurd (omega arith))
 
-pub place-symbol : (g : Source) (w : List ℕ) (r : ℕ) → Placing g (r + 1) w → ((q : ℕ) → Half (tableIn g) r q → ⊥) → Placing g r w
-place-symbol g w r k none = record {
+pub place-symbol : (g : Contents) (w : List ℕ) (r a b : ℕ) → Placing g (r + 1) w → r < rulesIn g → ruleIn w r ≡ Symbol a b → Placing g r w
+place-symbol g w r a b k h e = record {
   sizing = k .sizing;
   root = k .root;
-  halves = λ i q a b c. split-lt i r (λ m. absurd (omega arith)) (λ m. absurd (none q (subst (λ (y : ℕ). Half (tableIn g) y q) m c))) (λ m. k .halves i q (omega arith) b c);
+  halves = λ i q m n half. split-lt i r
+      (λ l. absurd (omega arith))
+      (λ l. absurd (no-half (tableIn g) r a b q (sym (kept-rule g w (k .sizing .kept) r h) ∙ e) (subst (λ (y : ℕ). Half (tableIn g) y q) l half)))
+      (λ l. k .halves i q (omega arith) n half);
 }
 
-module _ (g : Source) (w : List ℕ) (r u v : ℕ) (k : Placing g (r + 1) w) (h : r < rulesIn g) (p : PairOf (g .order) (tableIn g) r u v) where
-  -- the right half's place is no more than the length of the text
-  pub pair-room : placeIn w r + lengthIn w u ≤ 2048
+module _ (g : Contents) (w : List ℕ) (r u v : ℕ) (k : Placing g (r + 1) w) (h : r < rulesIn g) (q : ruleIn w r ≡ Pair u v) where
+  p : PairOf (tableIn g) r u v
+  p = kept-pair g w (k .sizing .kept) r h u v q
+
+  -- the halves are rules, and the right half's place is no more than the length of the text
+  pub pair-room : (u < 2304) × (v < 2304) × (placeIn w r + lengthIn w u ≤ 2048)
   pair-room =
       let at = reached g w (r + 1) r k (omega arith) h in
-      omega (
-        arith,
-        at .inside,
-        ap length (p .string),
-        length-append (ruleString (g .order) (tableIn g) u) (ruleString (g .order) (tableIn g) v),
-        k .sizing .sizes u (omega (arith, p .left)),
-        marked-length (g .order) (g .text),
-        k .sizing .kept .stored .short,
+      let most = k .sizing .most in (
+        omega (arith, p .left),
+        omega (arith, p .right),
+        omega (
+          arith,
+          at .inside,
+          ap length (p .string (g .order)),
+          length-append (ruleString (g .order) (tableIn g) u) (ruleString (g .order) (tableIn g) v),
+          k .sizing .sizes u (omega (arith, p .left)),
+          marked-length (g .order) (g .text),
+          k .sizing .kept .stored .short,
+        ),
       )
 
   pub place-pair : (z : List ℕ) → z ≡ set (set w (PLACES + u) (placeIn w r)) (PLACES + v) (placeIn w r + lengthIn w u) → Placing g r z
   place-pair z e =
       let x = placeIn w r in
-      let (a, b) = halves-stand (g .order) (tableIn g) (marked (g .order) (g .text)) r u v x (p .string) (reached g w (r + 1) r k (omega arith) h) in
+      let (a, b) = halves-stand (g .order) (tableIn g) (marked (g .order) (g .text)) r u v x (p .string (g .order)) (reached g w (r + 1) r k (omega arith) h) in
       let y = x + lengthIn w u in
-      let c : StandsAt (g .order) (tableIn g) (marked (g .order) (g .text)) v y =
-      subst (λ (m : ℕ). StandsAt (g .order) (tableIn g) (marked (g .order) (g .text)) v (x + m)) (sym (k .sizing .sizes u (omega (arith, p .left)))) b in
+      let c : StandsIn g v y =
+      subst (λ (m : ℕ). StandsIn g v (x + m)) (sym (k .sizing .sizes u (omega (arith, p .left)))) b in
       let w₁ = set w (PLACES + u) x in
       let (k₁, left) = placing-set g w (r + 1) u x k (omega (arith, p .left)) a in
       let (k₂, right) = placing-set g w₁ (r + 1) v y k₁ (omega (arith, p .right)) c in
@@ -123,23 +136,23 @@ module _ (g : Source) (w : List ℕ) (r u v : ℕ) (k : Placing g (r + 1) w) (h 
       rw e record {
         sizing = k₂ .sizing;
         root = k₂ .root;
-        halves = λ i q m n half. split-lt i r
+        halves = λ i j m n half. split-lt i r
             (λ l. absurd (omega arith))
             (λ l. ⊎-elim
-            (λ s. subst (λ (j : ℕ). Stands g (set w₁ (PLACES + v) y) j) (sym s) left₂)
-            (λ s. subst (λ (j : ℕ). Stands g (set w₁ (PLACES + v) y) j) (sym s) right)
-            (p .only q (subst (λ (j : ℕ). Half (tableIn g) j q) l half)))
-            (λ l. k₂ .halves i q (omega arith) n half);
+            (λ s. subst (Stands g (set w₁ (PLACES + v) y)) (sym s) left₂)
+            (λ s. subst (Stands g (set w₁ (PLACES + v) y)) (sym s) right)
+            (own-half (tableIn g) r u v j (sym (kept-rule g w (k .sizing .kept) r h) ∙ q) (subst (λ (c : ℕ). Half (tableIn g) c j) l half)))
+            (λ l. k₂ .halves i j (omega arith) n half);
       }
 
 -- ---- the beginning and the end
 
-pub place-start : (g : Source) (w v : List ℕ) (rules : ℕ) → rules ≡ rulesIn g → Sizing g rules w → v ≡ set w (PLACES + (rules - 1)) 0 → Placing g rules v
+pub place-start : (g : Contents) (w v : List ℕ) (rules : ℕ) → rules ≡ rulesIn g → Sizing g rules w → v ≡ set w (PLACES + (rules - 1)) 0 → Placing g rules v
 place-start g w v rules e s f =
     let whole = root-string (g .order) (g .text) (g .chair) (s .kept .stored) in
     let (some, most) = rule-range (g .order) (g .text) (g .chair) (s .kept .stored) in
     let size = ap length whole in
-    let front : StandsAt (g .order) (tableIn g) (marked (g .order) (g .text)) (rulesIn g - 1) 0 =
+    let front : StandsIn g (rulesIn g - 1) 0 =
     record {
       inside = omega arith;
       same = ap (λ (n : ℕ). part 0 n (marked (g .order) (g .text))) size ∙ whole-part (marked (g .order) (g .text)) ∙ sym whole;
@@ -150,7 +163,7 @@ place-start g w v rules e s f =
       halves = λ k r a b c. absurd (omega arith);
     }
 
-pub place-end : (g : Source) (w : List ℕ) → Placing g 0 w → Placed (g .order) (g .text) (g .chair) w
+pub place-end : (g : Contents) (w : List ℕ) → Placing g 0 w → Placed (g .order) (g .text) (g .chair) w
 place-end g w k = record {
   kept = k .sizing .kept;
   sizes = k .sizing .sizes;

@@ -1,20 +1,22 @@
 -- The strings of a stored table: none is longer than the marked text (`string-short`), the last is the marked text (`root-string`),
 -- and every other rule is a half of a later one (`later-half`). Each comes from the strings of the grammar, which the rules spell.
-use mathlib.Core.Path.{_≡_, sym, _∙_, ap}
-use mathlib.Core.Logic.{_⊎_, inl, inr, ⊎-elim}
+use mathlib.Core.Path.{_≡_, sym, _∙_, ap, subst}
+use mathlib.Core.Logic.{_⊎_, ⊎-elim}
 use mathlib.Core.List.{List, [], _++_}
 use Prim.Native.Nat.{ℕ, suc, _+_, _-_, _*_, _≤_, _<_}
 use native.Mathlib.Omega.{arith}
 use lib.ListN.{length, getD, length-append}
 use Rattle.definitions.specs.declared.Order.{Order}
 use Rattle.definitions.specs.Grammar.{leftOf, rightOf, indexOf, order as orderOf}
-use Rattle.definitions.specs.Table.{marked, wordOf, kindOf, numberOf, tableOf, ruleString, spelled, ruleCount}
+use Rattle.definitions.specs.Table.{marked, tableOf, ruleString, spelled, ruleCount}
 use Rattle.lyndon.specs.Sequence.{order-all, order-half}
 use Rattle.lyndon.specs.Ranks.{marked-lyndon}
-use Rattle.lyndon.specs.Encoding.{word-kind, word-number}
 use Rattle.lyndon.specs.Tables.{Entry, one, two, entry}
 use Rattle.lyndon.specs.Reading.{Stored, storable, table-words, table-rules, table-strings, table-spelled}
-use Rattle.places.specs.Passes.{Half}
+use Rattle.decoding.specs.declared.Rule.the-variants.{Pair}
+use Rattle.decoding.specs.Decoding.{ruleAt}
+use Rattle.decoding.proofs.Rules.{words-pair}
+use Rattle.places.specs.Passes.{Half, left, right}
 
 module _ (o : Order) (text : List ℕ) (chair : ℕ) (ok : Stored text chair) where
   once : (r : ℕ) → r < length (orderOf (marked o text)) → indexOf (getD (orderOf (marked o text)) r []) (orderOf (marked o text)) ≡ r
@@ -49,14 +51,13 @@ module _ (o : Order) (text : List ℕ) (chair : ℕ) (ok : Stored text chair) wh
   entry-half k r h l m half (one a b e f s) = absurd (omega (arith, ap length e))
   entry-half k r h l m half (two i j p q n e g f s) =
       let size = storable o text chair ok .size in
-      let first : getD (tableOf o text chair) (2 * k) 0 ≡ wordOf 1 i = ap (λ (t : List ℕ). getD t (2 * k) 0) (table-words o text chair ok) ∙ f in
-      let second : getD (tableOf o text chair) (2 * k + 1) 0 ≡ wordOf 2 j = ap (λ (t : List ℕ). getD t (2 * k + 1) 0) (table-words o text chair ok) ∙ s in (
-        ap kindOf first ∙ word-kind 1 i (omega arith),
-        ⊎-elim
-            (λ x. inl (ap numberOf first ∙ word-number 1 i (omega arith) ∙ same-number i r (omega arith) (omega arith) (e ∙ x)))
-            (λ x. inr (ap numberOf second ∙ word-number 2 j (omega arith) ∙ same-number j r (omega arith) (omega arith) (g ∙ x)))
-            half,
-      )
+      let t = tableOf o text chair in
+      let rule : ruleAt t k ≡ Pair i j =
+      words-pair t k i j (omega arith) (omega arith) (ap (λ (x : List ℕ). getD x (2 * k) 0) (table-words o text chair ok) ∙ f) (ap (λ (x : List ℕ). getD x (2 * k + 1) 0) (table-words o text chair ok) ∙ s) in
+      ⊎-elim
+      (λ x. subst (λ (c : ℕ). Half t k c) (same-number i r (omega arith) (omega arith) (e ∙ x)) (left j rule))
+      (λ x. subst (λ (c : ℕ). Half t k c) (same-number j r (omega arith) (omega arith) (g ∙ x)) (right i rule))
+      half
 
   pub later-half : (r : ℕ) → suc r < ruleCount (tableOf o text chair)
       → (k : ℕ) × (r < k) × (k < ruleCount (tableOf o text chair)) × Half (tableOf o text chair) k r

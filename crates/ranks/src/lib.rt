@@ -4,6 +4,9 @@ ghost use mathlib.Core.Path.{_≡_};
 ghost use Prim.Native.Nat.{_<_};
 ghost use Rattle.definitions.specs.Table.{rankOf, byteOf, numberOfRank, rankOfNumber};
 
+// The order that the services speak of.
+pub const SAMPLE_ORDER: Order = Order::Unsigned;
+
 // The rank of a byte in an order of samples.
 pub fn rank_of(order: Order, byte: u8) -> u32
     ensures { λ r. ⌜ r ≡ rankOf order byte ⌝ }

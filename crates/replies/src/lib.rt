@@ -4,13 +4,12 @@ use definitions::Reading;
 use definitions::Reply;
 use definitions::Search;
 use definitions::SearchReply;
-ghost use mathlib.Core.Path.{_≡_};
-ghost use Rattle.definitions.specs.Services.{done, refused, numbersOf, outcomeOf, readingOutcome, searchOutcome};
-ghost use Rattle.definitions.specs.Replies.{replyNumbers, searchNumbers};
+ghost use Rattle.definitions.specs.Services.{done, refused, outcomeOf, readingOutcome, searchOutcome};
+ghost use Rattle.definitions.specs.Replies.{Replies, SearchReplies};
 
 // An answer as a struct.
 pub fn replied(a: Answer) -> Reply
-    ensures { λ r. ⌜ replyNumbers r ≡ numbersOf (outcomeOf a) ⌝ }
+    ensures { λ r. ⌜ Replies r (outcomeOf a) ⌝ }
 {
     match a {
         Answer::Done(n) => success(n, 0),
@@ -20,7 +19,7 @@ pub fn replied(a: Answer) -> Reply
 
 // An answer to reading as a struct.
 pub fn replied_reading(a: Reading) -> Reply
-    ensures { λ r. ⌜ replyNumbers r ≡ numbersOf (readingOutcome a) ⌝ }
+    ensures { λ r. ⌜ Replies r (readingOutcome a) ⌝ }
 {
     match a {
         Reading::Done(n, chair) => success(n, chair),
@@ -30,7 +29,7 @@ pub fn replied_reading(a: Reading) -> Reply
 
 // An answer to counting or locating as a struct.
 pub fn replied_search(s: Search) -> SearchReply
-    ensures { λ r. ⌜ searchNumbers r ≡ numbersOf (searchOutcome s) ⌝ }
+    ensures { λ r. ⌜ SearchReplies r (searchOutcome s) ⌝ }
 {
     let a = s.answer;
     let r = replied(a);
@@ -44,7 +43,7 @@ pub fn replied_search(s: Search) -> SearchReply
 
 // The reply of success.
 fn success(count: usize, chair: u16) -> Reply
-    ensures { λ r. ⌜ replyNumbers r ≡ numbersOf (done count chair) ⌝ }
+    ensures { λ r. ⌜ Replies r (done count chair) ⌝ }
 {
     Reply {
         number: 0,
@@ -56,7 +55,7 @@ fn success(count: usize, chair: u16) -> Reply
 
 // The reply of a refusal.
 fn refusal(number: u32, place: usize) -> Reply
-    ensures { λ r. ⌜ replyNumbers r ≡ numbersOf (refused number place) ⌝ }
+    ensures { λ r. ⌜ Replies r (refused number place) ⌝ }
 {
     Reply {
         number: number,

@@ -1,213 +1,165 @@
--- What is found in a symbol rule is one comparison (`symbol-found`, `symbol-other`); in a pair rule it is what its halves have, and one
--- more where its join has a cut (`pair-found`). Storing it changes nothing that was counted, so one rule more is (`counted-more`).
-use mathlib.Core.Path.{_≡_, refl, sym, _∙_, ap, ap₂, subst}
+-- What is found in a symbol rule is one comparison (`symbol-found`); in a pair rule it is what its halves have, and one
+-- more where its join has a cut (`pair-occurs`, `pair-found`). Storing it changes nothing that was counted, so one rule more is (`counted-more`).
+use mathlib.Core.Path.{_≡_, refl, sym, _∙_, ap, subst}
 use mathlib.Core.Bool.{Bool, true, false, cond, _&&_}
 use mathlib.Core.List.{List, [], _∷_, _++_, map}
-use Prim.Native.Nat.{ℕ, _+_, _*_, _/_, _%_, _≤_, _<_, min}
+use Prim.Native.Nat.{ℕ, _+_, _/_, _%_, _≤_, _<_, min}
 use native.Mathlib.Omega.{arith}
 use lib.ListN.{length, getD, set, length-append, length-map, length-set}
 use lib.Seq.{getD-set-same, getD-set-other, take-set-le, drop-set-lt}
-use lib.Dec.{ltb, eqb}
-use borrow.Author.Tests.{eqb-true, eq-eqb, ne-eqb}
+use lib.Dec.{eqb}
+use borrow.Author.Tests.{ne-eqb}
 use Rattle.definitions.specs.declared.Order.{Order}
 use Rattle.definitions.specs.Words.{below, begins}
-use Rattle.definitions.specs.Table.{rankOf, tableOf, kindOf, numberOf, ruleString, isPair, leftHalf, rightHalf, ruleCount}
-use Rattle.definitions.specs.Occurrences.{occurrences}
-use Rattle.lists.specs.Bools.{and-right, contra}
+use Rattle.definitions.specs.Table.{rankOf, tableOf, ruleString, leftHalf, rightHalf, ruleCount}
+use Rattle.definitions.specs.Occurrences.{occurrences, straddling}
+use Rattle.lists.specs.Bools.{contra}
 use Rattle.lists.specs.Numbers.{split-lt}
-use Rattle.lists.specs.Parts.{part, part-at, part-length}
+use Rattle.lists.specs.Parts.{part, part-at}
 use Rattle.lyndon.specs.Joins.{occurrences-join}
 use Rattle.lyndon.specs.Occurrences.{occurrences-most, longer-nowhere}
 use Rattle.lyndon.specs.Reading.{rule-range}
-use Rattle.lyndon.specs.Shapes.{symbol-string}
-use Rattle.layout.specs.Layout.{TABLE, FOUND, FLAGS, PACK, lengthIn, placeIn, countIn}
-use Rattle.joins.specs.Areas.{Readable}
+use Rattle.layout.specs.Layout.{TABLE, FOUND, FLAGS, PACK, Readable, lengthIn, placeIn, countIn}
+use Rattle.decoding.specs.declared.Rule.the-variants.{Pair}
+use Rattle.decoding.specs.Decoding.{ruleIn}
+use Rattle.decoding.proofs.Rules.{SymbolOf, PairOf}
 use Rattle.joins.specs.Joining.{cutPlace, JoinCut}
 use Rattle.joins.proofs.Joining.{cut-place-size}
 use Rattle.search.specs.Found.{occursIn, acrossJoin, FoundIn}
-use Rattle.search.specs.Searching.{Counting, CountedBefore, Symbol, Pair}
-use Rattle.search.proofs.Standing.{PlacedHalves, rule-stands, pair-stands, Outside, placed-outside}
+use Rattle.search.specs.Searching.{Counting, CountedBefore, SymbolTurn}
+use Rattle.search.proofs.Standing.{PlacedHalves, placed-symbol, rule-stands, pair-stands, Outside, placed-outside}
 
 -- ---- a symbol
 
-one-symbol : (b a : ℕ) → occurrences (b ∷ []) (a ∷ []) ≡ cond (eqb b a) (0 ∷ []) []
+-- whether a pattern is one sample, and that symbol
+abbrev pub isSymbol : Order → List ℕ → ℕ → Bool
+isSymbol o p a = eqb (length p) 1 && eqb (rankOf o (getD p 0 0)) a
+
+one-count : (o : Order) (p : List ℕ) (a : ℕ) → 0 < length p → length (occurrences (map (rankOf o) p) (a ∷ [])) ≡ cond (isSymbol o p a) 1 0
 unfolding occurrences below begins
-one-symbol b a = go (eqb b a)
+one-count o [] a h = absurd (omega arith)
+one-count o (b ∷ []) a h = go (eqb (rankOf o b) a)
   where
-    go : (x : Bool) → _++_ {A = ℕ} (cond (x && true) (0 ∷ []) []) [] ≡ cond x (0 ∷ []) []
+    go : (x : Bool) → length (_++_ {A = ℕ} (cond (x && true) (0 ∷ []) []) []) ≡ cond (eqb 1 1 && x) 1 0
     go true = refl
     go false = refl
+one-count o (b ∷ c ∷ q) a h =
+    ap length (longer-nowhere (map (rankOf o) (b ∷ c ∷ q)) (a ∷ []) (omega (arith, length-map (b ∷ c ∷ q) (rankOf o)))) ∙ rw (ne-eqb (length (b ∷ c ∷ q)) 1 (λ e. omega arith))
 
-no-room : (p : List ℕ) (a : ℕ) → 1 < length p → occurrences p (a ∷ []) ≡ []
-no-room p a h = longer-nowhere p (a ∷ []) h
-
-module _ (o : Order) (p : List ℕ) (r : ℕ) (w : List ℕ) (h : Symbol o p r w) where
-  abbrev t : List ℕ
-  t = tableOf o (h .turn .text) (h .turn .chair)
-
-  abbrev P : List ℕ
-  P = map (rankOf o) p
-
-  no-pair : {A : Type 0} → isPair (tableOf o (h .turn .text) (h .turn .chair)) r ≡ true → A
-  unfolding isPair
-  no-pair e = absurd (omega (arith, h .is-symbol, eqb-true (kindOf (getD t (2 * r) 0)) 1 (and-right (ltb r (ruleCount t)) (eqb (kindOf (getD t (2 * r) 0)) 1) e)))
+module _ {o : Order} {p : List ℕ} {r : ℕ} {w : List ℕ} (h : SymbolTurn o p r w) where
+  symbol : SymbolOf (tableOf o (h .turn .text) (h .turn .chair)) r (h .number) (h .beside)
+  symbol = placed-symbol o (h .turn .text) (h .turn .chair) w (h .turn .counting .loaded) r (h .turn .low) (h .number) (h .beside) (h .rule)
 
   -- the rank that stands at the rule's place is its string
   symbol-stands : ruleString o (tableOf o (h .turn .text) (h .turn .chair)) r ≡ getD w (placeIn w r) 0 ∷ []
   symbol-stands =
-      let s = symbol-string o t r (h .turn .low) (h .is-symbol) in
+      let s = symbol .string o in
       let (k, e) = rule-stands o (h .turn .text) (h .turn .chair) w (h .turn .counting .loaded) r (h .turn .low) in
       let x = placeIn w r in
-      let n = length (ruleString o t r) in
+      let n = length (ruleString o (tableOf o (h .turn .text) (h .turn .chair)) r) in
       let z : x + 0 ≡ x = omega arith in
       s ∙ ap (λ (a : ℕ). a ∷ []) (ap (λ (l : List ℕ). getD l 0 0) (sym s ∙ sym e) ∙ part-at x n w 0 0 (omega (arith, ap length s)) ∙ ap (λ (i : ℕ). getD w i 0) z)
 
   pub symbol-place : placeIn w r < 2048
-  symbol-place =
-      let s = symbol-string o t r (h .turn .low) (h .is-symbol) in
-      omega (arith, ap length s, rule-stands o (h .turn .text) (h .turn .chair) w (h .turn .counting .loaded) r (h .turn .low) .0)
+  symbol-place = omega (arith, ap length (symbol .string o), rule-stands o (h .turn .text) (h .turn .chair) w (h .turn .counting .loaded) r (h .turn .low) .0)
 
-  found-of : (x : ℕ) → x % PACK ≡ 0 → x / PACK ≡ length (occurrences (map (rankOf o) p) (getD w (placeIn w r) 0 ∷ [])) → FoundIn o (tableOf o (h .turn .text) (h .turn .chair)) (map (rankOf o) p) r x
+  pub symbol-found : (x : ℕ) (b : Bool) → isSymbol o p (getD w (placeIn w r) 0) ≡ b → x / PACK ≡ cond b 1 0 → x % PACK ≡ 0
+      → FoundIn o (tableOf o (h .turn .text) (h .turn .chair)) (map (rankOf o) p) r x
   unfolding occursIn
-  found-of x z e = record { no-cut = λ q. z; number = e ∙ ap (λ (s : List ℕ). length (occurrences P s)) (sym symbol-stands); inside = λ q. no-pair q; cut = λ q. no-pair q }
-
-  pub symbol-long : (length p ≡ 1 → ⊥) → FoundIn o (tableOf o (h .turn .text) (h .turn .chair)) (map (rankOf o) p) r 0
-  symbol-long n =
-      let e : 1 < length (map (rankOf o) p) = omega (arith, length-map p (rankOf o), h .turn .counting .pattern .filled, lt-or-one) in
-      found-of 0 refl (ap length (sym (no-room (map (rankOf o) p) (getD w (placeIn w r) 0) e)))
-    where
-      lt-or-one : 1 < length p
-      lt-or-one = split-lt 1 (length p) (λ l. l) (λ q. absurd (n (sym q))) (λ l. absurd (omega (arith, h .turn .counting .pattern .filled)))
-
-  single : length p ≡ 1 → map (rankOf o) p ≡ rankOf o (getD p 0 0) ∷ []
-  single e = go p e
-    where
-      go : (q : List ℕ) → length q ≡ 1 → map (rankOf o) q ≡ rankOf o (getD q 0 0) ∷ []
-      go [] e = absurd (omega arith)
-      go (a ∷ []) e = refl
-      go (a ∷ b ∷ q) e = absurd (omega arith)
-
-  one-found : (b : Bool) → length p ≡ 1 → eqb (rankOf o (getD p 0 0)) (getD w (placeIn w r) 0) ≡ b
-      → length (occurrences (map (rankOf o) p) (getD w (placeIn w r) 0 ∷ [])) ≡ cond b 1 0
-  one-found b e q =
+  symbol-found x b e f z =
       let a = getD w (placeIn w r) 0 in
-      ap (λ (l : List ℕ). length (occurrences l (a ∷ []))) (single e)
-      ∙ ap length (one-symbol (rankOf o (getD p 0 0)) a)
-      ∙ ap (λ (x : Bool). length {A = ℕ} (cond x (0 ∷ []) [])) q
-      ∙ size b
-    where
-      size : (x : Bool) → length {A = ℕ} (cond x (0 ∷ []) []) ≡ cond x 1 0
-      size true = refl
-      size false = refl
-
-  pub symbol-found : length p ≡ 1 → getD w (placeIn w r) 0 ≡ rankOf o (getD p 0 0) → FoundIn o (tableOf o (h .turn .text) (h .turn .chair)) (map (rankOf o) p) r 4096
-  symbol-found e q = found-of 4096 refl (sym (one-found true e (eq-eqb (rankOf o (getD p 0 0)) (getD w (placeIn w r) 0) (sym q))))
-
-  pub symbol-other : length p ≡ 1 → (getD w (placeIn w r) 0 ≡ rankOf o (getD p 0 0) → ⊥) → FoundIn o (tableOf o (h .turn .text) (h .turn .chair)) (map (rankOf o) p) r 0
-  symbol-other e q = found-of 0 refl (sym (one-found false e (ne-eqb (rankOf o (getD p 0 0)) (getD w (placeIn w r) 0) (λ z. q (sym z)))))
+      record {
+        number =
+            f
+            ∙ sym (one-count o p a (h .turn .counting .pattern .filled) ∙ ap (λ (y : Bool). cond y 1 0) e)
+            ∙ ap (λ (s : List ℕ). length (occurrences (map (rankOf o) p) s)) (sym symbol-stands);
+        inside = λ q. contra q (symbol .no-pair);
+        cut = λ q. contra q (symbol .no-pair);
+        no-cut = λ q. z;
+      }
 
 -- ---- a pair
 
--- the occurrences in a pair rule
-pub rule-occurrences : (o : Order) (t p w : List ℕ) (r u v : ℕ) → PlacedHalves o t r u v w → u ≡ numberOf (getD t (2 * r) 0) → v ≡ numberOf (getD t (2 * r + 1) 0) → 0 < length p
-    → occursIn o t p r ≡ occursIn o t p u ++ (acrossJoin o t p r ++ map (λ (k : ℕ). length (leftHalf o t r) + k) (occursIn o t p v))
-unfolding occursIn acrossJoin leftHalf rightHalf
-rule-occurrences o t p w r u v h e f z =
-    ap (occurrences p) (h .string)
-    ∙ occurrences-join p (leftHalf o t r) (rightHalf o t r) z
-    ∙ rw (e, f)
+-- the occurrences in a pair whose join has the cut c, 0 if none; its left half is n symbols long
+module _ (o : Order) (t p : List ℕ) (r u v n c : ℕ) (h : PairOf t r u v) (e : n ≡ length (ruleString o t u)) (filled : 0 < length p)
+    (across : acrossJoin o t p r ≡ cutPlace (length (leftHalf o t r)) c) where
+  pub pair-occurs : occursIn o t p r ≡ occursIn o t p u ++ (cutPlace n c ++ map (λ (k : ℕ). n + k) (occursIn o t p v))
+  unfolding occursIn acrossJoin
+  pair-occurs =
+      let n₁ = length (ruleString o t u) in
+      let cut : straddling p (ruleString o t u) (ruleString o t v) ≡ cutPlace n₁ c = rw (h .left-half o, h .right-half o) at across in
+      ap (occurrences p) (h .string o)
+      ∙ occurrences-join p (ruleString o t u) (ruleString o t v) filled
+      ∙ ap (λ (x : List ℕ). occurrences p (ruleString o t u) ++ (x ++ map (λ (k : ℕ). n₁ + k) (occurrences p (ruleString o t v)))) cut
+      ∙ ap (λ (m : ℕ). occurrences p (ruleString o t u) ++ (cutPlace m c ++ map (λ (k : ℕ). m + k) (occurrences p (ruleString o t v)))) (sym e)
 
--- and those that straddle its join, by the cut there
-across-here : (o : Order) (t p w : List ℕ) (r u v c : ℕ) → PlacedHalves o t r u v w
-    → JoinCut p (part (placeIn w r) (lengthIn w u) w) (part (placeIn w r + lengthIn w u) (lengthIn w v) w) c
-    → acrossJoin o t p r ≡ cutPlace (length (leftHalf o t r)) c
-unfolding acrossJoin
-across-here o t p w r u v c k j =
-    let j′ : JoinCut p (leftHalf o t r) (rightHalf o t r) c = rw (k .left-part, k .right-part) at j in
-    j′ .place (k .std)
+  pub pair-counts : length (occursIn o t p r) ≡ length (occursIn o t p u) + (min 1 c + length (occursIn o t p v))
+  pair-counts =
+      let behind = map (λ (k : ℕ). n + k) (occursIn o t p v) in
+      omega (
+        arith,
+        ap length pair-occurs,
+        length-append (occursIn o t p u) (cutPlace n c ++ behind),
+        length-append (cutPlace n c) behind,
+        cut-place-size n c,
+        length-map (occursIn o t p v) (λ (k : ℕ). n + k),
+      )
 
-module _ (o : Order) (p : List ℕ) (r u v : ℕ) (w : List ℕ) (h : Pair o p r u v w) where
-  pair-halves-here : PlacedHalves o (tableOf o (h .turn .text) (h .turn .chair)) r u v w
-  pair-halves-here = pair-stands o (h .turn .text) (h .turn .chair) w (h .turn .counting .loaded) r (h .turn .low) u v (h .is-pair) (h .left) (h .right)
+-- ---- what the code reads of rule r
 
-  ranks-filled : 0 < length (map (rankOf o) p)
-  ranks-filled = omega (arith, length-map p (rankOf o), h .turn .counting .pattern .filled)
-
-  halves-most : countIn w u + countIn w v ≤ 4096
-  unfolding occursIn leftHalf rightHalf
-  halves-most =
-      let k = pair-halves-here in
-      let t = tableOf o (h .turn .text) (h .turn .chair) in
-      let P = map (rankOf o) p in
-      let (low, e) = rule-stands o (h .turn .text) (h .turn .chair) w (h .turn .counting .loaded) r (h .turn .low) in
-      let a = h .turn .counting .found u (k .left-low) .number in
-      let b = h .turn .counting .found v (k .right-low) .number in
-      let size : length (ruleString o t r) ≡ length (ruleString o t u) + length (ruleString o t v) = ap length (k .string) ∙ length-append (leftHalf o t r) (rightHalf o t r) ∙ rw (h .left, h .right) in
-      omega (arith, a, b, occurrences-most P (ruleString o t u), occurrences-most P (ruleString o t v))
-
-  pair-found : (c x : ℕ) → JoinCut (map (rankOf o) p) (part (placeIn w r) (lengthIn w u) w) (part (placeIn w r + lengthIn w u) (lengthIn w v) w) c
-      → x / PACK ≡ countIn w u + countIn w v + min 1 c → x % PACK ≡ c
-      → FoundIn o (tableOf o (h .turn .text) (h .turn .chair)) (map (rankOf o) p) r x
-  pair-found c x j e f =
-      let k = pair-halves-here in
-      let t = tableOf o (h .turn .text) (h .turn .chair) in
-      let P = map (rankOf o) p in
-      let a = h .turn .counting .found u (k .left-low) .number in
-      let b = h .turn .counting .found v (k .right-low) .number in
-      let n = length (leftHalf o t r) in
-      let across : acrossJoin o t P r ≡ cutPlace n c = across-here o t P w r u v c k j in
-      let total : length (occursIn o t P r) ≡ length (occursIn o t P u) + (min 1 c + length (occursIn o t P v)) =
-      ap length (rule-occurrences o t P w r u v k (h .left) (h .right) ranks-filled)
-      ∙ length-append (occursIn o t P u) (acrossJoin o t P r ++ map (λ (i : ℕ). n + i) (occursIn o t P v))
-      ∙ ap (λ (i : ℕ). length (occursIn o t P u) + i)
-      (length-append (acrossJoin o t P r) (map (λ (i : ℕ). n + i) (occursIn o t P v))
-      ∙ ap₂ {C = ℕ} (λ i m. i + m) (ap length across ∙ cut-place-size n c) (length-map (occursIn o t P v) (λ (i : ℕ). n + i)))
-      in
-      record {
-        number = e ∙ omega (arith, a, b, total);
-        inside = λ q. omega (arith, j .inside, part-length (placeIn w r) (lengthIn w u) w (omega (arith, k .inside, h .turn .counting .loaded .kept .long)), k .left-size);
-        cut = λ q. across ∙ ap (cutPlace n) (sym f);
-        no-cut = λ q. contra (h .is-pair) q;
-      }
-
--- ---- what the code reads of it
-
-pub turn-known : {o : Order} {p : List ℕ} {r : ℕ} {w : List ℕ} → CountedBefore o p r w → Readable w r
-turn-known {o} {p} {r} {w} h =
-    let n = rule-range o (h .text) (h .chair) (h .counting .loaded .kept .stored) in
-    record { low = omega (arith, h .low); long = h .counting .loaded .kept .long }
-
-pub record PairKnown (p : List ℕ) (r u v : ℕ) (w : List ℕ) : Type 0 where
-  pub rule : Readable w r
+-- of a pair that stands at x: its halves are rules, and not too long
+pub record PairKnown (u v x : ℕ) (w : List ℕ) : Type 0 where
   pub left : Readable w u
   pub right : Readable w v
-  pub inside : placeIn w r + lengthIn w u + lengthIn w v ≤ 2048
+  pub inside : x + lengthIn w u + lengthIn w v ≤ 2048
   pub most : countIn w u + countIn w v ≤ 4096
-  pub filled : 0 < length p
-  pub short : length p ≤ 2047
 
-pub pair-known : {o : Order} {p : List ℕ} {r u v : ℕ} {w : List ℕ} → Pair o p r u v w → PairKnown p r u v w
-pair-known {o} {p} {r} {u} {v} {w} h =
-    let k = pair-halves-here o p r u v w h in
-    let n = rule-range o (h .turn .text) (h .turn .chair) (h .turn .counting .loaded .kept .stored) in
-    let low = h .turn .low in
-    let long = h .turn .counting .loaded .kept .long in
-    record {
-      rule = record { low = omega arith; long = long };
-      left = record { low = omega arith; long = long };
-      right = record { low = omega arith; long = long };
-      inside = k .inside;
-      most = halves-most o p r u v w h;
-      filled = h .turn .counting .pattern .filled;
-      short = h .turn .counting .pattern .short;
-    }
+module _ {o : Order} {p : List ℕ} {r : ℕ} {w : List ℕ} (h : CountedBefore o p r w) where
+  pub turn-known : Readable w r
+  turn-known =
+      let n = rule-range o (h .text) (h .chair) (h .counting .loaded .kept .stored) in
+      record { low = omega (arith, h .low); long = h .counting .loaded .kept .long }
 
-pub pair-found-at : (o : Order) (p : List ℕ) (r u v : ℕ) (w : List ℕ) (h : Pair o p r u v w) (at left right c x : ℕ)
-    → at ≡ placeIn w r → left ≡ lengthIn w u → right ≡ lengthIn w v
-    → JoinCut (map (rankOf o) p) (part at left w) (part (at + left) right w) c
-    → x / PACK ≡ countIn w u + countIn w v + min 1 c → x % PACK ≡ c
-    → FoundIn o (tableOf o (h .turn .text) (h .turn .chair)) (map (rankOf o) p) r x
-pair-found-at o p r u v w h at left right c x e f g j = pair-found o p r u v w h c x (rw (e, f, g) at j)
+  module _ (u v : ℕ) (e : ruleIn w r ≡ Pair u v) where
+    halves-here : PlacedHalves o (tableOf o (h .text) (h .chair)) r u v w
+    halves-here = pair-stands o (h .text) (h .chair) w (h .counting .loaded) r (h .low) u v e
+
+    pub pair-known : PairKnown u v (placeIn w r) w
+    unfolding occursIn
+    pair-known =
+        let k = halves-here in
+        let t = tableOf o (h .text) (h .chair) in
+        let P = map (rankOf o) p in
+        let left = k .pair .left in
+        let right = k .pair .right in
+        let low = turn-known .low in
+        let a = h .counting .found u left .number in
+        let b = h .counting .found v right .number in
+        record {
+          left = record { low = omega arith; long = turn-known .long };
+          right = record { low = omega arith; long = turn-known .long };
+          inside = k .inside;
+          most = omega (arith, a, b, occurrences-most P (ruleString o t u), occurrences-most P (ruleString o t v), k .inside, k .left-size, k .right-size);
+        }
+
+    pub pair-found : (at left right c x : ℕ) → at ≡ placeIn w r → left ≡ lengthIn w u → right ≡ lengthIn w v
+        → JoinCut (map (rankOf o) p) (part at left w) (part (at + left) right w) c → x / PACK ≡ countIn w u + countIn w v + min 1 c → x % PACK ≡ c
+        → FoundIn o (tableOf o (h .text) (h .chair)) (map (rankOf o) p) r x
+    unfolding acrossJoin
+    pair-found at left right c x i m n j e f =
+        let k = halves-here in
+        let t = tableOf o (h .text) (h .chair) in
+        let P = map (rankOf o) p in
+        let a = h .counting .found u (k .pair .left) .number in
+        let b = h .counting .found v (k .pair .right) .number in
+        let cut : JoinCut P (leftHalf o t r) (rightHalf o t r) c = rw (i, m, n, k .left-part, k .right-part) at j in
+        let filled : 0 < length P = omega (arith, length-map p (rankOf o), h .counting .pattern .filled) in
+        record {
+          number = e ∙ omega (arith, a, b, pair-counts o t P r u v (lengthIn w u) c (k .pair) (k .left-size) filled (cut .place (k .std)));
+          inside = λ q. omega (arith, cut .inside);
+          cut = λ q. cut .place (k .std) ∙ ap (cutPlace (length (leftHalf o t r))) (sym f);
+          no-cut = λ q. contra (k .pair .is-pair) q;
+        }
 
 -- ---- one rule more
 

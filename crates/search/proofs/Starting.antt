@@ -4,8 +4,8 @@ use mathlib.Core.Path.{_≡_, sym, _∙_, ap}
 use mathlib.Core.List.{List, _++_, map, append-assoc, List·Memᴰ as In}
 use Prim.Native.Nat.{ℕ, suc, _+_, _-_, _≤_, _<_}
 use native.Mathlib.Omega.{arith}
-use lib.ListN.{length, take, drop, getD, length-append, length-take, length-drop, length-map}
-use lib.Seq.{length-take-le, take-append-le, take-take, drop-append-add, drop-at, drop-drop}
+use lib.ListN.{length, take, drop, getD, length-take, length-drop, length-map}
+use lib.Seq.{length-take-le, drop-at}
 use Rattle.definitions.specs.declared.Order.{Order}
 use Rattle.definitions.specs.Words.{placed}
 use Rattle.definitions.specs.Table.{rankOf, tableOf, spelled, ruleCount}
@@ -13,7 +13,7 @@ use Rattle.definitions.specs.Occurrences.{isLive, liveCuts, occurrences}
 use Rattle.lists.specs.Bools.{cond-true}
 use Rattle.lists.specs.Lists.{placed-length}
 use Rattle.lists.specs.Numbers.{below-lt}
-use Rattle.lists.specs.Parts.{part, part-at, part-front}
+use Rattle.lists.specs.Parts.{part, part-at, part-front, lent-length, lent-before, lent-behind}
 use Rattle.lyndon.specs.Cuts.{live-cut}
 use Rattle.lyndon.specs.Joins.{triedCuts, tried-live}
 use Rattle.lyndon.specs.Ranks.{slice-bytes}
@@ -29,31 +29,6 @@ use Rattle.search.proofs.Standing.{placed-outside}
 
 pub pattern-here : (p : List ℕ) → 0 < length p → length p ≤ 2047 → ((i : ℕ) → i < length p → getD p i 0 < 256) → Pattern p
 pattern-here p h k b = record { filled = h; short = k; bytes = slice-bytes p b }
-
--- ---- a part of w from a on, n words, is written over by z
-
-drop-behind : (x z y : List ℕ) (a n k : ℕ) → length x ≡ a → length z ≡ n → drop (a + (n + k)) (x ++ (z ++ y)) ≡ drop k y
-drop-behind x z y a n k e f =
-    ap (λ (i : ℕ). drop (i + (n + k)) (x ++ (z ++ y))) (sym e)
-    ∙ drop-append-add x (z ++ y) (n + k)
-    ∙ ap (λ (i : ℕ). drop (i + k) (z ++ y)) (sym f)
-    ∙ drop-append-add z y k
-
-module _ (w z : List ℕ) (a n : ℕ) (fits : a + n ≤ length w) (size : length z ≡ n) where
-  written-size : length (take a w ++ (z ++ drop n (drop a w))) ≡ length w
-  written-size = simp (length-append, length-append, length-take, length-drop, length-drop) (omega arith)
-
-  written-before : (b : ℕ) → b ≤ a → take b (take a w ++ (z ++ drop n (drop a w))) ≡ take b w
-  written-before b h = take-append-le b (take a w) (z ++ drop n (drop a w)) (omega (arith, length-take-le a w (omega arith))) ∙ take-take b a w h
-
-  written-behind : (b k : ℕ) → b ≡ a + (n + k) → drop b (take a w ++ (z ++ drop n (drop a w))) ≡ drop b w
-  written-behind b k e =
-      let s : a + (n + k) ≡ a + n + k = omega arith in
-      ap (λ (i : ℕ). drop i (take a w ++ (z ++ drop n (drop a w)))) e
-      ∙ drop-behind (take a w) z (drop n (drop a w)) a n k (length-take-le a w (omega arith)) size
-      ∙ ap (drop k) (drop-drop n a w)
-      ∙ drop-drop k (a + n) w
-      ∙ ap (λ (i : ℕ). drop i w) (sym (e ∙ s))
 
 -- ---- flags
 
@@ -73,7 +48,7 @@ pub counting-start : (o : Order) (p text : List ℕ) (chair : ℕ) (w z : List �
 unfolding placed
 counting-start o p text chair w z n h q e f =
     record {
-      loaded = placed-outside o text chair w v (record { size = written-size w z FLAGS n fits size; before = written-before w z FLAGS n fits size FOUND (omega arith); behind = written-behind w z FLAGS n fits size TABLE 512 (omega arith) }) h;
+      loaded = placed-outside o text chair w v (record { size = lent-length w z FLAGS n fits size; before = lent-before w z FLAGS n fits size FOUND (omega arith); behind = lent-behind w z FLAGS n fits size TABLE (omega arith) }) h;
       pattern = q;
       flagged = tried-flagged o p v flags;
       found = λ r l. absurd (omega arith);

@@ -1,14 +1,15 @@
 -- What the work slice holds while the occurrences of a pattern are counted: beside what `Placed` says, flags of the cuts that
 -- are tried, from FLAGS on, and what is found in each rule, from FOUND on. p is the pattern as bytes.
 use mathlib.Core.Path.{_≡_}
-use mathlib.Core.Bool.{true}
 use mathlib.Core.List.{List, map}
-use Prim.Native.Nat.{ℕ, _+_, _*_, _≤_, _<_}
+use Prim.Native.Nat.{ℕ, _+_, _≤_, _<_}
 use lib.ListN.{length, getD}
 use Rattle.definitions.specs.declared.Order.{Order}
-use Rattle.definitions.specs.Table.{rankOf, tableOf, isPair, kindOf, numberOf, ruleCount}
+use Rattle.definitions.specs.Table.{rankOf, tableOf, ruleCount}
 use Rattle.lyndon.specs.Ranks.{Bytes}
 use Rattle.layout.specs.Layout.{FOUND}
+use Rattle.decoding.specs.declared.Rule.the-variants.{Symbol}
+use Rattle.decoding.specs.Decoding.{ruleIn}
 use Rattle.places.specs.Places.{Placed}
 use Rattle.joins.specs.Joining.{Flagged}
 use Rattle.search.specs.Found.{FoundIn}
@@ -55,14 +56,9 @@ pub record CountedBefore (o : Order) (p : List ℕ) (r : ℕ) (w : List ℕ) : T
   pub counting : Counting o p text chair r w
   pub low : r < ruleCount (tableOf o text chair)
 
--- and rule r is a symbol's
-pub record Symbol (o : Order) (p : List ℕ) (r : ℕ) (w : List ℕ) : Type 0 where
+-- and rule r is read as a symbol
+pub record SymbolTurn (o : Order) (p : List ℕ) (r : ℕ) (w : List ℕ) : Type 0 where
   pub turn : CountedBefore o p r w
-  pub is-symbol : kindOf (getD (tableOf o (turn .text) (turn .chair)) (2 * r) 0) ≡ 0
-
--- or rule r is the pair of the rules u and v
-pub record Pair (o : Order) (p : List ℕ) (r u v : ℕ) (w : List ℕ) : Type 0 where
-  pub turn : CountedBefore o p r w
-  pub is-pair : isPair (tableOf o (turn .text) (turn .chair)) r ≡ true
-  pub left : u ≡ numberOf (getD (tableOf o (turn .text) (turn .chair)) (2 * r) 0)
-  pub right : v ≡ numberOf (getD (tableOf o (turn .text) (turn .chair)) (2 * r + 1) 0)
+  pub number : ℕ
+  pub beside : ℕ
+  pub rule : ruleIn w r ≡ Symbol number beside

@@ -2,13 +2,12 @@
 //
 // An occurrence in a pair rule lies in one of its halves or straddles its join, and there at a live cut. A rule's string stands
 // somewhere in the text, so a cut costs one comparison; at most n - m + 2 are made for m samples among n. Equal samples cost most.
+use decoding::Rule;
+use decoding::rule_in;
 use definitions::Order;
-use joins::areas::is_symbol;
-use joins::areas::left_of;
 use joins::areas::length_of;
 use joins::areas::number_of;
 use joins::areas::place_of;
-use joins::areas::right_of;
 use joins::cut_at_join;
 use layout::FLAGS;
 use layout::FLAGS_END;
@@ -24,7 +23,7 @@ ghost use Rattle.definitions.specs.Occurrences.{occurrences};
 ghost use Rattle.layout.specs.Layout.{PACK};
 ghost use Rattle.places.specs.Places.{Placed};
 ghost use Rattle.search.specs.Found.{FoundIn};
-ghost use Rattle.search.specs.Searching.{Counting, Searched, Starts, Counts, CountedBefore, Symbol, Pair};
+ghost use Rattle.search.specs.Searching.{Counting, Searched, Starts, Counts, CountedBefore, SymbolTurn};
 
 // Counts the occurrences of a pattern in the text that is loaded, whose table has so many rules.
 pub fn count(order: Order, pattern: &[u8], work: &mut [u32], rules: usize) -> usize
@@ -54,16 +53,20 @@ fn found_in(order: Order, pattern: &[u8], work: &[u32], r: usize) -> u32
     requires { ⌜ CountedBefore order (now pattern) r (now work) ⌝ }
     ensures { λ x. ⌜ ((h : CountedBefore order (now (pattern .entry)) r (now (work .entry))) → FoundIn order (tableOf order (h .text) (h .chair)) (map (rankOf order) (now (pattern .entry))) r x) ⌝ }
 {
-    if is_symbol(work, r) {
+    let rule = rule_in(work, r);
+    let Rule::Pair(u, v) = rule else {
         return found_in_symbol(order, pattern, work, r);
-    }
-    found_in_pair(order, pattern, work, r, left_of(work, r), right_of(work, r))
+    };
+    let left = length_of(work, u);
+    let right = length_of(work, v);
+    let cut = cut_at_join(order, pattern, work, place_of(work, r), left, right);
+    found(number_of(work, u) + number_of(work, v), cut)
 }
 
 // The same of a symbol rule: its rank stands where the rule does.
 fn found_in_symbol(order: Order, pattern: &[u8], work: &[u32], r: usize) -> u32
-    requires { ⌜ Symbol order (now pattern) r (now work) ⌝ }
-    ensures { λ x. ⌜ ((h : Symbol order (now (pattern .entry)) r (now (work .entry))) → FoundIn order (tableOf order (h .turn .text) (h .turn .chair)) (map (rankOf order) (now (pattern .entry))) r x) ⌝ }
+    requires { ⌜ SymbolTurn order (now pattern) r (now work) ⌝ }
+    ensures { λ x. ⌜ ((h : SymbolTurn order (now (pattern .entry)) r (now (work .entry))) → FoundIn order (tableOf order (h .turn .text) (h .turn .chair)) (map (rankOf order) (now (pattern .entry))) r x) ⌝ }
 {
     if pattern.len() != 1 {
         return 0;
@@ -73,17 +76,6 @@ fn found_in_symbol(order: Order, pattern: &[u8], work: &[u32], r: usize) -> u32
         return 4096;
     }
     0
-}
-
-// The same of a pair rule with the halves u and v.
-fn found_in_pair(order: Order, pattern: &[u8], work: &[u32], r: usize, u: usize, v: usize) -> u32
-    requires { ⌜ Pair order (now pattern) r u v (now work) ⌝ }
-    ensures { λ x. ⌜ ((h : Pair order (now (pattern .entry)) r u v (now (work .entry))) → FoundIn order (tableOf order (h .turn .text) (h .turn .chair)) (map (rankOf order) (now (pattern .entry))) r x) ⌝ }
-{
-    let left = length_of(work, u);
-    let right = length_of(work, v);
-    let cut = cut_at_join(order, pattern, work, place_of(work, r), left, right);
-    found(number_of(work, u) + number_of(work, v), cut)
 }
 
 // The occurrences in both halves and at the join, and the cut there.

@@ -3,21 +3,24 @@
 use mathlib.Core.Path.{_≡_, refl, sym, _∙_, ap, ap₂}
 use mathlib.Core.Bool.{true}
 use mathlib.Core.List.{List, [], _∷_, _++_, map, map-append, List·Memᴰ·head as here, List·Memᴰ·tail as there}
-use Prim.Native.Nat.{ℕ, zero, suc, _+_, _-_, _*_, _%_, _≤_, _<_}
+use Prim.Native.Nat.{ℕ, zero, suc, _+_, _-_, _≤_, _<_}
 use native.Mathlib.Omega.{arith}
 use native.Mathlib.Numerals.{add-one}
-use lib.ListN.{length, take, getD, set, length-append, length-map}
+use lib.ListN.{length, take, getD, set, length-map}
 use lib.Seq.{take-suc, length-take-le}
 use Rattle.definitions.specs.declared.Order.{Order}
 use Rattle.definitions.specs.declared.Order.the-variants.{Unsigned}
 use Rattle.definitions.specs.Words.{placed}
-use Rattle.definitions.specs.Table.{rankOf, byteOf, rankOfNumber, marked, kindOf, numberOf, ruleString, spelled, textOf, isTable, ruleCount}
+use Rattle.definitions.specs.Table.{rankOf, byteOf, rankOfNumber, marked, ruleString, spelled, textOf, isTable, ruleCount}
 use Rattle.lists.specs.Lists.{placed-more}
 use Rattle.lyndon.specs.Ranks.{Bytes, rank-range, byte-of-rank}
 use Rattle.lyndon.specs.Reading.{accepted-stored, accepted-spelled}
-use Rattle.lyndon.specs.Shapes.{Shaped, Shape, one, two, shape, symbol-string, pair-string, symbol-word, pair-word}
+use Rattle.lyndon.specs.Shapes.{Shaped}
+use Rattle.decoding.specs.declared.Rule.{Rule}
+use Rattle.decoding.specs.declared.Rule.the-variants.{Symbol, Pair}
+use Rattle.decoding.specs.Decoding.{ruleAt}
+use Rattle.decoding.proofs.Rules.{SymbolOf, PairOf, symbol-read, pair-read}
 use Rattle.spelling.specs.Spelling.{samples, symbolBytes, ruleBytes}
-use Rattle.layout.specs.Layout.{KIND}
 
 -- ---- samples of strings
 
@@ -52,56 +55,36 @@ marked-samples o text h = ranks-samples o text h
 
 -- ---- rules
 
--- rule r spells what u spells and then what v spells
-pub record PairOf (t : List ℕ) (r u v : ℕ) : Type 0 where
-  pub left : u < r
-  pub right : v < r
-  pub bytes : ruleBytes t r ≡ ruleBytes t u ++ ruleBytes t v
+symbol-bytes : (o : Order) (t : List ℕ) (r a b : ℕ) → SymbolOf t r a b → samples o (ruleString o t r) ≡ symbolBytes a
+symbol-bytes o t r a b h = ap (samples o) (h .string o) ∙ symbol-samples o a (h .number)
 
-pub halves-size : (t : List ℕ) (r u v : ℕ) → PairOf t r u v → length (ruleBytes t r) ≡ length (ruleBytes t u) + length (ruleBytes t v)
-halves-size t r u v h = ap length (h .bytes) ∙ length-append (ruleBytes t u) (ruleBytes t v)
+pair-bytes : (o : Order) (t : List ℕ) (r u v : ℕ) → PairOf t r u v → samples o (ruleString o t r) ≡ samples o (ruleString o t u) ++ samples o (ruleString o t v)
+pair-bytes o t r u v h = ap (samples o) (h .string o) ∙ samples-append o (ruleString o t u) (ruleString o t v)
 
 module _ (t : List ℕ) (s : Shaped t) where
-  symbol-in : (o : Order) (r : ℕ) → r < ruleCount t → kindOf (getD t (2 * r) 0) ≡ 0 → numberOf (getD t (2 * r) 0) < 257
-      → samples o (ruleString o t r) ≡ symbolBytes (numberOf (getD t (2 * r) 0))
-  symbol-in o r h k n = ap (samples o) (symbol-string o t r h k) ∙ symbol-samples o (numberOf (getD t (2 * r) 0)) n
-
-  pair-in : (o : Order) (r : ℕ) → r < ruleCount t → kindOf (getD t (2 * r) 0) ≡ 1 → numberOf (getD t (2 * r) 0) < r → numberOf (getD t (2 * r + 1) 0) < r
-      → samples o (ruleString o t r) ≡ samples o (ruleString o t (numberOf (getD t (2 * r) 0))) ++ samples o (ruleString o t (numberOf (getD t (2 * r + 1) 0)))
-  pair-in o r h k u v =
-      ap (samples o) (pair-string o t r h k u v)
-      ∙ samples-append o (ruleString o t (numberOf (getD t (2 * r) 0))) (ruleString o t (numberOf (getD t (2 * r + 1) 0)))
-
   -- the bytes of a rule are the same in each order
   below-samples : (o : Order) (b r : ℕ) → r < b → r < ruleCount t → samples o (ruleString o t r) ≡ ruleBytes t r
   unfolding ruleBytes
   below-samples o zero r l h = absurd (omega arith)
-  below-samples o (suc b) r l h = go (shape t r s h) (λ q m. below-samples o b q (omega arith) (omega arith))
+  below-samples o (suc b) r l h = go (ruleAt t r) refl (λ q m. below-samples o b q (omega arith) (omega arith))
     where
-      go : Shape t r → ((q : ℕ) → q < r → samples o (ruleString o t q) ≡ samples Unsigned (ruleString Unsigned t q)) → samples o (ruleString o t r) ≡ samples Unsigned (ruleString Unsigned t r)
-      go (one k n x y) ih = symbol-in o r h k n ∙ sym (symbol-in Unsigned r h k n)
-      go (two k n x y) ih =
-          pair-in o r h k n y
-          ∙ ap₂ {C = List ℕ} (λ a b. a ++ b) (ih (numberOf (getD t (2 * r) 0)) n) (ih (numberOf (getD t (2 * r + 1) 0)) y)
-          ∙ sym (pair-in Unsigned r h k n y)
+      go : (x : Rule) → ruleAt t r ≡ x → ((q : ℕ) → q < r → samples o (ruleString o t q) ≡ samples Unsigned (ruleString Unsigned t q)) → samples o (ruleString o t r) ≡ samples Unsigned (ruleString Unsigned t r)
+      go (Symbol a c) e ih = let k = symbol-read t r s h a c e in symbol-bytes o t r a c k ∙ sym (symbol-bytes Unsigned t r a c k)
+      go (Pair u v) e ih =
+          let k = pair-read t r s h u v e in
+          pair-bytes o t r u v k ∙ ap₂ {C = List ℕ} (λ a b. a ++ b) (ih u (k .left)) (ih v (k .right)) ∙ sym (pair-bytes Unsigned t r u v k)
 
   pub rule-samples : (o : Order) (r : ℕ) → r < ruleCount t → samples o (ruleString o t r) ≡ ruleBytes t r
   rule-samples o r h = below-samples o (suc r) r (omega arith) h
 
   module _ (r : ℕ) (h : r < ruleCount t) where
-    -- a rule whose first word is a symbol's
-    pub spelled-symbol : getD t (2 * r) 0 < KIND → (getD t (2 * r) 0 < 257) × (ruleBytes t r ≡ symbolBytes (getD t (2 * r) 0))
+    pub spelled-symbol : (a b : ℕ) → ruleAt t r ≡ Symbol a b → (a < 257) × (ruleBytes t r ≡ symbolBytes a)
     unfolding ruleBytes
-    spelled-symbol l =
-        let (n, e) = symbol-word t r s h l in
-        (n, ap (samples Unsigned) (e Unsigned) ∙ symbol-samples Unsigned (getD t (2 * r) 0) n)
+    spelled-symbol a b e = let k = symbol-read t r s h a b e in (k .number, symbol-bytes Unsigned t r a b k)
 
-    -- and one whose first word is a left half's
-    pub spelled-pair : KIND ≤ getD t (2 * r) 0 → PairOf t r (getD t (2 * r) 0 % KIND) (getD t (2 * r + 1) 0 % KIND)
-    unfolding numberOf ruleBytes
-    spelled-pair l =
-        let (k, u, v) = pair-word t r s h l in
-        record { left = u; right = v; bytes = pair-in Unsigned r h k u v }
+    pub spelled-pair : (u v : ℕ) → ruleAt t r ≡ Pair u v → (u < r) × (v < r) × (ruleBytes t r ≡ ruleBytes t u ++ ruleBytes t v)
+    unfolding ruleBytes
+    spelled-pair u v e = let k = pair-read t r s h u v e in (k .left, k .right, pair-bytes Unsigned t r u v k)
 
 -- the root of an accepted table
 pub root-bytes : (o : Order) (t : List ℕ) → Shaped t → isTable o t ≡ true → ruleBytes t (ruleCount t - 1) ≡ textOf o t

@@ -51,17 +51,19 @@ pub record Root (rules text : List ℕ) (n : ℕ) : Type 0 where
   pub low : n - 1 < ruleCount rules
   pub bytes : ruleBytes rules (n - 1) ≡ text
 
+-- they are the table
+pub loaded-table : (w : List ℕ) (h : Ready w) (n : ℕ) → n ≡ ruleCount (tableOf (h .order) (h .text) (h .chair))
+    → take (TABLE + 2 * n - TABLE) (drop TABLE w) ≡ tableOf (h .order) (h .text) (h .chair)
+loaded-table w h n e =
+    let size : TABLE + 2 * n - TABLE ≡ length (tableOf (h .order) (h .text) (h .chair)) = omega (arith, table-length (h .order) (h .text) (h .chair) (h .stored)) in
+    part-taken TABLE (TABLE + 2 * n - TABLE) (length (tableOf (h .order) (h .text) (h .chair))) w size ∙ h .loaded .table
+
 pub loaded-root : (w : List ℕ) (h : Ready w) (n : ℕ) → n ≡ ruleCount (tableOf (h .order) (h .text) (h .chair))
     → Root (take (TABLE + 2 * n - TABLE) (drop TABLE w)) (h .text) n
-loaded-root w h n e = subst (λ (l : List ℕ). Root l (h .text) n) (sym words) whole
+loaded-root w h n e = subst (λ (l : List ℕ). Root l (h .text) n) (sym (loaded-table w h n e)) whole
   where
     t : List ℕ
     t = tableOf (h .order) (h .text) (h .chair)
-
-    words : take (TABLE + 2 * n - TABLE) (drop TABLE w) ≡ tableOf (h .order) (h .text) (h .chair)
-    words =
-        let size : TABLE + 2 * n - TABLE ≡ length (tableOf (h .order) (h .text) (h .chair)) = omega (arith, table-length (h .order) (h .text) (h .chair) (h .stored)) in
-        part-taken TABLE (TABLE + 2 * n - TABLE) (length t) w size ∙ h .loaded .table
 
     whole : Root (tableOf (h .order) (h .text) (h .chair)) (h .text) n
     whole =

@@ -1,6 +1,7 @@
 // Spelling the text that is loaded: whole, by recursion over the rules, or a part of it from its ranks.
+use decoding::Rule;
+use decoding::rule_of;
 use definitions::Order;
-use layout::KIND;
 use layout::LONGEST;
 use layout::TABLE;
 use ranks::byte_of;
@@ -38,14 +39,17 @@ fn spell(rules: &[u32], r: usize, result: &mut [u8]) -> usize
     ensures { λ n. ⌜ n ≡ length (ruleBytes (now (rules .entry)) r) ⌝ }
     ensures { λ _. ⌜ now (result .exit) ≡ placed (ruleBytes (now (rules .entry)) r) (now (result .entry)) ⌝ }
 {
-    let x = rules[2 * r];
-    let y = rules[2 * r + 1];
-    if x < KIND {
-        return spell_symbol(x, result);
+    let rule = rule_of(rules, r);
+    match rule {
+        Rule::Symbol(number, _) => {
+            return spell_symbol(number, result);
+        }
+        Rule::Pair(left, right) => {
+            let n = spell(rules, left, result);
+            let m = spell(rules, right, &mut result[n..]);
+            return n + m;
+        }
     }
-    let n = spell(rules, wide(x % KIND), result);
-    let m = spell(rules, wide(y % KIND), &mut result[n..]);
-    n + m
 }
 
 // Spells a symbol's number: the mark is no sample.

@@ -8,10 +8,12 @@ use native.Mathlib.Omega.{arith}
 use native.Mathlib.Nat.{zero-add}
 use lib.ListN.{length, take, drop, getD}
 use borrow.Author.Tests.{le-leb}
+use Rattle.definitions.specs.declared.Answer.the-variants.{Done, Refused}
 use Rattle.definitions.specs.declared.Order.{Order}
 use Rattle.definitions.specs.Words.{same}
 use Rattle.definitions.specs.Grammar.{order}
 use Rattle.definitions.specs.Table.{rankOf, byteOf, marked, tableOf, spelled, textOf, chairOf, isChair, isTable, ruleCount}
+use Rattle.lists.specs.Bools.{contra, not-so}
 use Rattle.lists.specs.Members.{at-in, in-at, in-map}
 use Rattle.lists.specs.Parts.{part-length, part-at}
 use Rattle.lyndon.specs.Ranks.{Bytes, rank-of-byte, byte-range, rank-range, is-drive, marked-length}
@@ -19,7 +21,7 @@ use Rattle.lyndon.specs.Reading.{Stored, accepted-stored, accepted-spelled}
 use Rattle.lyndon.specs.Shapes.{string-ranks, chair-small}
 use Rattle.layout.specs.Layout.{TABLE}
 use Rattle.grammar.specs.Loaded.{Marked, Loaded, loaded-words, rules-most}
-use Rattle.tables.specs.Loading.{Front, Rooted}
+use Rattle.tables.specs.Loading.{Front, Rooted, Judged}
 
 -- ---- ranks of samples
 
@@ -53,19 +55,18 @@ marked-first o text = refl
 
 -- ---- an accepted table
 
-not-accepted : (o : Order) (t : List ℕ) → (isTable o t ≡ true → ⊥) → false ≡ isTable o t
-not-accepted o t h = go (isTable o t) refl
-  where
-    go : (b : Bool) → isTable o t ≡ b → false ≡ isTable o t
-    go true e = absurd (h e)
-    go false e = sym e
-
 pub too-long : (o : Order) (t : List ℕ) → 2048 < length (spelled o t) → false ≡ isTable o t
-too-long o t h = not-accepted o t (λ e. omega (arith, ap length (accepted-spelled o t e), marked-length o (textOf o t), accepted-stored o t e .short))
+too-long o t h = sym (not-so (isTable o t) (λ e. omega (arith, ap length (accepted-spelled o t e), marked-length o (textOf o t), accepted-stored o t e .short)))
+
+pub refused : (o : Order) (t v : List ℕ) → false ≡ isTable o t → Judged o t v (Refused 7 0)
+refused o t v e = record { answer = rw (sym e); loaded = λ q. contra q (sym e) }
+
+pub accepted : (o : Order) (t v : List ℕ) → true ≡ isTable o t → Loaded o (textOf o t) (chairOf t) v → Judged o t v (Done (ruleCount t))
+accepted o t v e l = record { answer = rw (sym e); loaded = λ q. l }
 
 -- ---- n ranks at the front of the work slice are what the table spells
 
-module _ (o : Order) (t w : List ℕ) (n : ℕ) (r : Rooted o t w n) where
+module _ {o : Order} {t w : List ℕ} {n : ℕ} (r : Rooted o t w n) where
   size : length (spelled o t) ≡ n
   size = ap length (sym (r .whole)) ∙ part-length 0 n w (omega (arith, r .most, r .long))
 
@@ -73,14 +74,14 @@ module _ (o : Order) (t w : List ℕ) (n : ℕ) (r : Rooted o t w n) where
   at-front i h = ap (λ (l : List ℕ). getD l i 0) (sym (r .whole)) ∙ part-at 0 n w i 0 h ∙ ap (λ (k : ℕ). getD w k 0) (zero-add i)
 
   pub unmarked : (Front w n → ⊥) → false ≡ isTable o t
-  unmarked h = not-accepted o t (λ e.
+  unmarked h = sym (not-so (isTable o t) (λ e.
       let same-list = accepted-spelled o t e in
       h (record {
         mark = sym (at-front 0 (r .filled)) ∙ ap (λ (l : List ℕ). getD l 0 0) same-list ∙ marked-first o (textOf o t);
         samples = λ i l k.
             subst (λ (z : ℕ). 0 < z) (ap (λ (l : List ℕ). getD l i 0) (sym same-list) ∙ at-front i k)
             (marked-front o (textOf o t) (accepted-stored o t e .bytes) i l (omega (arith, ap length same-list, size)));
-      }))
+      })))
 
   module _ (f : Front w n) where
     pub text-bytes : (marked o (textOf o t) ≡ spelled o t) × Bytes (textOf o t)

@@ -2,22 +2,12 @@
 use mathlib.Core.Path.{_∙_, ap}
 use borrow.Author.Needs.{needs}
 use Rattle.definitions.specs.Services.{numbersOf}
+use Rattle.lists.specs.Serving.{said}
 use Rattle.capi.proofs.sirbolta_check.Statement.{statement}
 use Rattle.capi.proofs.sirbolta_check.Tie as tie
 
-check-requires : tie.Need-check-requires
-check-requires c κs = search needs
-
-replied-requires : tie.Need-replied-requires
-replied-requires c κs = search needs
-
-same-length : tie.Need-same-length
-same-length c = search needs
-
 returns : tie.Need-returns
-returns c =
-    let b = c .before .before .before in
-    (c .replied .ensures ∙ ap numbersOf (b .check .ensures .0), b .check .ensures .1)
+returns c = said (λ o e. c .replied .ensures ∙ ap numbersOf e) (c .before .before .before .check .ensures)
 
 pub sirbolta-check-spec : {M : Type 1} → statement M
-sirbolta-check-spec = tie.close (tie.spec check-requires replied-requires same-length returns)
+sirbolta-check-spec = tie.close (tie.spec (λ c κs. search needs) (λ c κs. search needs) (λ c. search needs) returns)

@@ -1,24 +1,13 @@
 -- `sirbolta_count` is `count`.
 use mathlib.Core.Path.{_∙_, ap}
-use Rattle.definitions.specs.Services.{numbersOf}
 use borrow.Author.Needs.{needs}
+use Rattle.definitions.specs.Services.{numbersOf}
+use Rattle.lists.specs.Serving.{said}
 use Rattle.capi.proofs.sirbolta_count.Statement.{statement}
 use Rattle.capi.proofs.sirbolta_count.Tie as tie
 
-count-requires : tie.Need-count-requires
-count-requires c κs = search needs
-
-replied-search-requires : tie.Need-replied-search-requires
-replied-search-requires c κs = search needs
-
-same-length : tie.Need-same-length
-same-length c = search needs
-
 returns : tie.Need-returns
-returns c =
-    let b = c .before .before .before in
-    (c .replied-search .ensures ∙ ap numbersOf (b .count .ensures .0), b .count .ensures .1)
+returns c = said (λ o e. c .replied-search .ensures ∙ ap numbersOf e) (c .before .before .before .count .ensures)
 
 pub sirbolta-count-spec : {M : Type 1} → statement M
-sirbolta-count-spec =
-    tie.close (tie.spec count-requires replied-search-requires same-length returns)
+sirbolta-count-spec = tie.close (tie.spec (λ c κs. search needs) (λ c κs. search needs) (λ c. search needs) returns)

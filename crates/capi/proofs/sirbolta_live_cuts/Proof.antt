@@ -1,24 +1,13 @@
 -- `sirbolta_live_cuts` is `live_cuts`.
 use mathlib.Core.Path.{_∙_, ap}
-use Rattle.definitions.specs.Services.{numbersOf}
 use borrow.Author.Needs.{needs}
+use Rattle.definitions.specs.Services.{numbersOf}
+use Rattle.lists.specs.Serving.{said}
 use Rattle.capi.proofs.sirbolta_live_cuts.Statement.{statement}
 use Rattle.capi.proofs.sirbolta_live_cuts.Tie as tie
 
-live-cuts-requires : tie.Need-live-cuts-requires
-live-cuts-requires c κs = search needs
-
-replied-requires : tie.Need-replied-requires
-replied-requires c κs = search needs
-
-same-length : tie.Need-same-length
-same-length c = search needs
-
 returns : tie.Need-returns
-returns c =
-    let b = c .before .before .before in
-    (c .replied .ensures ∙ ap numbersOf (b .live-cuts .ensures .0), b .live-cuts .ensures .1)
+returns c = said (λ o e. c .replied .ensures ∙ ap numbersOf e) (c .before .before .before .live-cuts .ensures)
 
 pub sirbolta-live-cuts-spec : {M : Type 1} → statement M
-sirbolta-live-cuts-spec =
-    tie.close (tie.spec live-cuts-requires replied-requires same-length returns)
+sirbolta-live-cuts-spec = tie.close (tie.spec (λ c κs. search needs) (λ c κs. search needs) (λ c. search needs) returns)

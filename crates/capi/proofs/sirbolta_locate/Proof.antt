@@ -1,27 +1,13 @@
 -- `sirbolta_locate` is `locate`.
 use mathlib.Core.Path.{_∙_, ap}
-use Rattle.definitions.specs.Services.{numbersOf}
 use borrow.Author.Needs.{needs}
+use Rattle.definitions.specs.Services.{numbersOf}
+use Rattle.lists.specs.Serving.{said}
 use Rattle.capi.proofs.sirbolta_locate.Statement.{statement}
 use Rattle.capi.proofs.sirbolta_locate.Tie as tie
 
-locate-requires : tie.Need-locate-requires
-locate-requires c κs = search needs
-
-replied-search-requires : tie.Need-replied-search-requires
-replied-search-requires c κs = search needs
-
-same-length : tie.Need-same-length
-same-length c = search needs
-
-same-length-2 : tie.Need-same-length-2
-same-length-2 c = search needs
-
 returns : tie.Need-returns
-returns c =
-    let b = c .before .before .before .before .before in
-    (c .replied-search .ensures ∙ ap numbersOf (b .locate .ensures .0), b .locate .ensures .1)
+returns c = said (λ o e. c .replied-search .ensures ∙ ap numbersOf e) (c .before .before .before .before .before .locate .ensures)
 
 pub sirbolta-locate-spec : {M : Type 1} → statement M
-sirbolta-locate-spec =
-    tie.close (tie.spec locate-requires replied-search-requires same-length same-length-2 returns)
+sirbolta-locate-spec = tie.close (tie.spec (λ c κs. search needs) (λ c κs. search needs) (λ c. search needs) (λ c. search needs) returns)

@@ -6,9 +6,6 @@ use borrow.Author.Needs.{needs}
 use Rattle.cuts.proofs.append.Statement.{statement}
 use Rattle.cuts.proofs.append.Tie as tie
 
-cast-result : tie.Need-cast-result
-cast-result c = search needs
-
 mul-result : tie.Need-mul-result
 mul-result c = omega (arith, c .before .pre .0 (c .if1 .taken))
 
@@ -18,9 +15,6 @@ slice-write-result c = c .before .pre .0 (c .if1 .taken)
 add-result : tie.Need-add-result
 add-result c = omega (arith, c .before .pre .0 (c .if1 .taken))
 
-same-length : tie.Need-same-length
-same-length c = search needs
-
 returns : tie.Need-returns
 returns c = (λ e. (refl, refl), λ e. contra (c .if1 .taken) e)
 
@@ -28,6 +22,4 @@ returns-2 : tie.Need-returns-2
 returns-2 c = (λ e. contra e (c .if1 .left), λ e. (refl, refl))
 
 pub append-spec : {M : Type 1} → statement M
-append-spec =
-    tie.close
-    (tie.spec cast-result mul-result slice-write-result add-result same-length returns returns-2)
+append-spec = tie.close (tie.spec (λ c. search needs) mul-result slice-write-result add-result (λ c. search needs) returns returns-2)

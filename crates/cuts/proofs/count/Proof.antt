@@ -19,18 +19,12 @@ Inv-loop order pattern run₀ n₀ run n =
 abbrev μ-loop : tie.MeasureT-loop
 μ-loop order pattern run₀ n₀ run n = ahead (length pattern) (run .start) (run .back)
 
-first-requires : tie.Need-first-requires Inv-loop μ-loop
-first-requires c κs = tt
-
 loop-holds : tie.Need-loop-holds Inv-loop μ-loop
 loop-holds c =
     let a = c .before .before .args in
     let r = c .first .result in
     let (e, z) = c .first .ensures in
     (scan-start (map (rankOf (a .order)) (a .pattern .now)) (r .start) (r .back) (r .end) e z, counted-start (a .order) (a .pattern .now) (r .start) e)
-
-at-end-requires : tie.Need-at-end-requires Inv-loop μ-loop
-at-end-requires c κs = tt
 
 add-n : tie.Need-add-n Inv-loop μ-loop
 add-n c =
@@ -72,16 +66,4 @@ returns c =
     at .loop .inv .1 ∙ ap length (all-passed (a .order) (a .pattern .now) (r .start) (r .back) (r .end) (at .loop .inv .0) (c .if1 .left))
 
 pub count-spec : {M : Type 1} → statement M
-count-spec =
-    tie.close
-    (tie.spec
-    Inv-loop
-    μ-loop
-    first-requires
-    loop-holds
-    at-end-requires
-    add-n
-    next-requires
-    loop-less
-    loop-again
-    returns)
+count-spec = tie.close (tie.spec Inv-loop μ-loop (λ c κs. tt) loop-holds (λ c κs. tt) add-n next-requires loop-less loop-again returns)

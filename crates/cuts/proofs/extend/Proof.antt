@@ -17,24 +17,12 @@ Inv-loop order pattern start back₀ end₀ back end = Running (map (rankOf orde
 abbrev μ-loop : tie.MeasureT-loop
 μ-loop order pattern start back₀ end₀ back end = length pattern - end
 
-add-end : tie.Need-add-end Inv-loop μ-loop
-add-end c = omega arith
-
 loop-holds : tie.Need-loop-holds Inv-loop μ-loop
 loop-holds c =
     let s = c .before in samples-first (s .args .order) (s .args .pattern .now) (s .args .start) (s .pre)
 
 shared-slice-read-rank-of : tie.Need-shared-slice-read-rank-of Inv-loop μ-loop
 shared-slice-read-rank-of c = omega (arith, c .before .before .loop .inv .high)
-
-rank-of-requires : tie.Need-rank-of-requires Inv-loop μ-loop
-rank-of-requires c κs = tt
-
-shared-slice-read-rank-of-2 : tie.Need-shared-slice-read-rank-of-2 Inv-loop μ-loop
-shared-slice-read-rank-of-2 c = omega arith
-
-rank-of-requires-2 : tie.Need-rank-of-requires-2 Inv-loop μ-loop
-rank-of-requires-2 c κs = tt
 
 add-back : tie.Need-add-back Inv-loop μ-loop
 add-back c = omega (arith, c .before .before .before .before .before .before .loop .inv .high)
@@ -46,12 +34,6 @@ returns c =
     let at = a .before .before .before in
     let s = at .before .before .args in
     (refl, samples-broken (s .order) (s .pattern .now) (s .start) (at .loop .back) (at .loop .end) (at .loop .inv) (omega arith) (a .rank-of .result) (b .rank-of2 .result) (a .rank-of .ensures) (b .rank-of2 .ensures) (c .if2 .taken))
-
-add-end-2 : tie.Need-add-end-2 Inv-loop μ-loop
-add-end-2 c = omega arith
-
-loop-less : tie.Need-loop-less Inv-loop μ-loop
-loop-less c = omega arith
 
 loop-again : tie.Need-loop-again Inv-loop μ-loop
 loop-again c =
@@ -75,18 +57,5 @@ returns-2 c =
 pub extend-spec : {M : Type 1} → statement M
 extend-spec =
     tie.close
-    (tie.spec
-    Inv-loop
-    μ-loop
-    add-end
-    loop-holds
-    shared-slice-read-rank-of
-    rank-of-requires
-    shared-slice-read-rank-of-2
-    rank-of-requires-2
-    add-back
-    returns
-    add-end-2
-    loop-less
-    loop-again
-    returns-2)
+    (tie.spec Inv-loop μ-loop (λ c. omega arith) loop-holds shared-slice-read-rank-of (λ c κs. tt) (λ c. omega arith) (λ c κs. tt) add-back returns
+    (λ c. omega arith) (λ c. omega arith) loop-again returns-2)

@@ -8,24 +8,6 @@ use Rattle.cuts.proofs.Flags.{flags-placed}
 use Rattle.cuts.proofs.flag.Statement.{statement}
 use Rattle.cuts.proofs.flag.Tie as tie
 
-sub-clear : tie.Need-sub-clear
-sub-clear c = search needs
-
-part-clear-start : tie.Need-part-clear-start
-part-clear-start c = search needs
-
-part-clear-end : tie.Need-part-clear-end
-part-clear-end c = search needs
-
-clear-requires : tie.Need-clear-requires
-clear-requires c κs = search needs
-
-raise-requires : tie.Need-raise-requires
-raise-requires c κs = search needs
-
-same-length : tie.Need-same-length
-same-length c = search needs
-
 returns : tie.Need-returns
 returns c =
     let r = c .before .before in
@@ -37,11 +19,4 @@ returns c =
 pub flag-spec : {M : Type 1} → statement M
 flag-spec =
     tie.close
-    (tie.spec
-    sub-clear
-    part-clear-start
-    part-clear-end
-    clear-requires
-    raise-requires
-    same-length
-    returns)
+    (tie.spec (λ c. search needs) (λ c. search needs) (λ c. search needs) (λ c κs. search needs) (λ c κs. search needs) (λ c. search needs) returns)

@@ -11,18 +11,12 @@ sub-start c =
     let a = s .args in
     omega (arith, samples-high (a .order) (a .pattern .now) (a .run .start) (a .run .back) (a .run .end) (s .pre .0) (s .pre .1) (c .before .if1 .taken))
 
-add-start : tie.Need-add-start
-add-start c = search needs
-
 returns : tie.Need-returns
 returns c =
     let t = c .before .before in
     let s = t .before .before .before in
     let a = s .args in
     samples-left (a .order) (a .pattern .now) (a .run .start) (a .run .back) (a .run .end) (s .pre .0) (s .pre .1) (t .if1 .taken)
-
-extend-requires : tie.Need-extend-requires
-extend-requires c κs = search needs
 
 returns-2 : tie.Need-returns-2
 returns-2 c =
@@ -32,4 +26,4 @@ returns-2 c =
     samples-extended (a .order) (a .pattern .now) (a .run .start) (a .run .back) (a .run .end) (r .start) (r .back) (r .end) (s .pre .0) (c .before .if1 .left) (c .extend .ensures .0) (c .extend .ensures .1)
 
 pub next-spec : {M : Type 1} → statement M
-next-spec = tie.close (tie.spec sub-start add-start returns extend-requires returns-2)
+next-spec = tie.close (tie.spec sub-start (λ c. search needs) returns (λ c κs. search needs) returns-2)

@@ -22,18 +22,12 @@ Inv-loop order pattern flags₀ run₀ flags run =
 abbrev μ-loop : tie.MeasureT-loop
 μ-loop order pattern flags₀ run₀ flags run = ahead (length pattern) (run .start) (run .back)
 
-first-requires : tie.Need-first-requires Inv-loop μ-loop
-first-requires c κs = tt
-
 loop-holds : tie.Need-loop-holds Inv-loop μ-loop
 loop-holds c =
     let a = c .before .before .before .args in
     let r = c .first .result in
     let (e, z) = c .first .ensures in
     (refl, scan-start (map (rankOf (a .order)) (a .pattern .now)) (r .start) (r .back) (r .end) e z, raised-start (a .order) (a .pattern .now) (r .start) e (a .flags .now))
-
-at-end-requires : tie.Need-at-end-requires Inv-loop μ-loop
-at-end-requires c κs = tt
 
 raise-one-requires : tie.Need-raise-one-requires Inv-loop μ-loop
 raise-one-requires c κs =
@@ -80,15 +74,4 @@ returns c =
 pub raise-spec : {M : Type 1} → statement M
 raise-spec =
     tie.close
-    (tie.spec
-    Inv-loop
-    μ-loop
-    first-requires
-    loop-holds
-    at-end-requires
-    raise-one-requires
-    next-requires
-    loop-less
-    loop-again
-    same-length
-    returns)
+    (tie.spec Inv-loop μ-loop (λ c κs. tt) loop-holds (λ c κs. tt) raise-one-requires next-requires loop-less loop-again same-length returns)

@@ -5,15 +5,6 @@ use borrow.Author.Needs.{needs}
 use Rattle.cuts.proofs.raise_one.Statement.{statement}
 use Rattle.cuts.proofs.raise_one.Tie as tie
 
-mul-flags : tie.Need-mul-flags
-mul-flags c = search needs
-
-slice-write-flags : tie.Need-slice-write-flags
-slice-write-flags c = search needs
-
-same-length : tie.Need-same-length
-same-length c = search needs
-
 returns : tie.Need-returns
 returns c = (λ e. refl, λ e. contra (c .if1 .taken) e)
 
@@ -21,4 +12,4 @@ returns-2 : tie.Need-returns-2
 returns-2 c = (λ e. contra e (c .if1 .left), λ e. refl)
 
 pub raise-one-spec : {M : Type 1} → statement M
-raise-one-spec = tie.close (tie.spec mul-flags slice-write-flags same-length returns returns-2)
+raise-one-spec = tie.close (tie.spec (λ c. search needs) (λ c. search needs) (λ c. search needs) returns returns-2)

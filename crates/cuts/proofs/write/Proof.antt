@@ -21,9 +21,6 @@ Inv-loop order pattern result₀ run₀ n₀ result run n =
 abbrev μ-loop : tie.MeasureT-loop
 μ-loop order pattern result₀ run₀ n₀ result run n = ahead (length pattern) (run .start) (run .back)
 
-first-requires : tie.Need-first-requires Inv-loop μ-loop
-first-requires c κs = tt
-
 loop-holds : tie.Need-loop-holds Inv-loop μ-loop
 loop-holds c =
     let a = c .before .before .before .args in
@@ -34,9 +31,6 @@ loop-holds c =
       counted-start (a .order) (a .pattern .now) (r .start) e,
       written-start (a .order) (a .pattern .now) (r .start) e (a .result .now),
     )
-
-at-end-requires : tie.Need-at-end-requires Inv-loop μ-loop
-at-end-requires c κs = tt
 
 append-requires : tie.Need-append-requires Inv-loop μ-loop
 append-requires c κs =
@@ -94,15 +88,4 @@ returns c =
 pub write-spec : {M : Type 1} → statement M
 write-spec =
     tie.close
-    (tie.spec
-    Inv-loop
-    μ-loop
-    first-requires
-    loop-holds
-    at-end-requires
-    append-requires
-    next-requires
-    loop-less
-    loop-again
-    same-length
-    returns)
+    (tie.spec Inv-loop μ-loop (λ c κs. tt) loop-holds (λ c κs. tt) append-requires next-requires loop-less loop-again same-length returns)

@@ -16,9 +16,6 @@ count-requires c κs =
     let a = s .args in
     (placed-starts (a .order) (a .work .now) (k .place-rules .last .0) (a .rules) (k .place-rules .ensures) (s .pre .0) (s .pre .1) (s .pre .2), s .pre .3, s .pre .4)
 
-same-length : tie.Need-same-length
-same-length c = search needs
-
 returns : tie.Need-returns
 returns c h e size =
     let b = c .before .before in
@@ -27,4 +24,4 @@ returns c h e size =
     loaded-count (a .order) (a .work .now) (k .place-rules .last .0) (a .rules) (k .place-rules .ensures) h e size (a .pattern .now) (b .count .last .1 .1 .0) (b .count .result) (b .count .ensures)
 
 pub count-loaded-spec : {M : Type 1} → statement M
-count-loaded-spec = tie.close (tie.spec place-rules-requires count-requires same-length returns)
+count-loaded-spec = tie.close (tie.spec place-rules-requires count-requires (λ c. search needs) returns)

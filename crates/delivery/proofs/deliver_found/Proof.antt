@@ -1,53 +1,31 @@
 -- `deliver_found` lists where the result slice is long enough, and else refuses.
 use borrow.Author.Needs.{needs}
 use Rattle.definitions.specs.Occurrences.{occurrences}
-use Rattle.checks.proofs.Delivering.{text-answer, text-refused, text-fits, text-done}
+use Rattle.delivery.proofs.Writing.{list-refused, list-fits, list-written}
 use Rattle.delivery.proofs.deliver_found.Statement.{statement}
 use Rattle.delivery.proofs.deliver_found.Tie as tie
 
-result-fits-requires : tie.Need-result-fits-requires
-result-fits-requires c κs = search needs
-
-enum-told : tie.Need-enum-told
-enum-told c = search needs
-
-enum-told-2 : tie.Need-enum-told-2
-enum-told-2 c = search needs
-
 returns : tie.Need-returns
-returns c =
+returns c h e q =
     let f = c .before .before in
     let a = f .before .before .before .args in
-    (λ h q. text-answer (occurrences (h .pattern) (h .text)) (a .result .now) (a .n) q (f .result-fits .result) (f .result-fits .ensures), λ h e q. text-refused (occurrences (h .pattern) (h .text)) (a .result .now) (a .n) q (f .result-fits .result) (f .result-fits .ensures) _ _ (c .enum-told2 .given .1))
+    list-refused (occurrences (h .pattern) (h .text)) (a .result .now) (a .n) q (f .result-fits .result) (f .result-fits .ensures) (c .enum-told2 .given .1)
 
 list-requires : tie.Need-list-requires
 list-requires c κs =
-    let e = c .before in
-    let f = e .before .before in
+    let f = c .before .before .before in
     let s = f .before .before .before in
-    let a = s .args in
     let h = s .pre .0 in
-    (h, s .pre .1, text-fits (occurrences (h .pattern) (h .text)) (a .result .now) (a .n) (s .pre .2) (f .result-fits .result) (f .result-fits .ensures) _ (e .enum-told .given .1))
-
-same-length : tie.Need-same-length
-same-length c = search needs
+    (h, s .pre .1, list-fits (occurrences (h .pattern) (h .text)) (s .args .result .now) (s .args .n) (s .pre .2) (f .result-fits .result) (f .result-fits .ensures) (c .before .enum-told .given .1))
 
 returns-2 : tie.Need-returns-2
-returns-2 c =
+returns-2 c h e q =
     let p = c .before .before in
-    let e = p .before .before in
-    let f = e .before .before in
+    let f = p .before .before .before .before in
     let a = f .before .before .before .args in
-    (λ h q. text-answer (occurrences (h .pattern) (h .text)) (a .result .now) (a .n) q (f .result-fits .result) (f .result-fits .ensures), λ h x q. text-done (occurrences (h .pattern) (h .text)) (a .result .now) (a .n) q (f .result-fits .result) (f .result-fits .ensures) _ _ (e .enum-told .given .1) (p .list .ensures h x .1))
+    list-written (occurrences (h .pattern) (h .text)) (a .result .now) (a .n) q (f .result-fits .result) (f .result-fits .ensures) (p .list .last .1 .1 .0) (p .before .before .enum-told .given .1) (p .list .ensures h e .1)
 
 pub deliver-found-spec : {M : Type 1} → statement M
 deliver-found-spec =
     tie.close
-    (tie.spec
-    result-fits-requires
-    enum-told
-    enum-told-2
-    returns
-    list-requires
-    same-length
-    returns-2)
+    (tie.spec (λ c κs. search needs) (λ c. search needs) (λ c. search needs) returns list-requires (λ c. search needs) returns-2)

@@ -1,95 +1,71 @@
 -- `deliver_part` writes where the part is in range and the result slice is long enough, and else refuses.
+use mathlib.Core.Path.{_∙_, ap}
+use mathlib.Core.List.{List}
+use Prim.Native.Nat.{ℕ}
+use native.Mathlib.Omega.{arith}
+use lib.ListN.{take, drop}
 use borrow.Author.Needs.{needs}
-use Rattle.delivery.proofs.Parts.{range-refused, range-fits, part-answered, part-refused, part-fits, part-done}
+use Rattle.definitions.specs.Words.{placed}
+use Rattle.delivery.proofs.Writing.{list-refused, list-fits, list-written, range-refused, range-fits, piece-size, piece-same, part-served}
 use Rattle.delivery.proofs.deliver_part.Statement.{statement}
 use Rattle.delivery.proofs.deliver_part.Tie as tie
 
 text-length-requires : tie.Need-text-length-requires
 text-length-requires c κs = c .before .before .pre .0
 
-range-fits-requires : tie.Need-range-fits-requires
-range-fits-requires c κs = search needs
-
-enum-known-range : tie.Need-enum-known-range
-enum-known-range c = search needs
-
-enum-told : tie.Need-enum-told
-enum-told c = search needs
-
 returns : tie.Need-returns
-returns c =
+returns c h e =
     let r = c .before .before in
     let n = r .before in
-    let a = n .before .before .before .args in (
-      λ h. range-refused (h .text) (a .result .now) (a .start) (a .count) (n .text-length .result) (n .text-length .ensures h) (r .range-fits .result) (r .range-fits .ensures) _ _ (c .enum-told .given .1) .0,
-      λ h e. range-refused (h .text) (a .result .now) (a .start) (a .count) (n .text-length .result) (n .text-length .ensures h) (r .range-fits .result) (r .range-fits .ensures) _ _ (c .enum-told .given .1) .1,
-    )
-
-result-fits-requires : tie.Need-result-fits-requires
-result-fits-requires c κs = search needs
-
-enum-told-2 : tie.Need-enum-told-2
-enum-told-2 c = search needs
-
-enum-told-3 : tie.Need-enum-told-3
-enum-told-3 c = search needs
+    let a = n .before .before .before .args in
+    range-refused (h .text) (a .result .now) (a .start) (a .count) (n .text-length .result) (n .text-length .ensures h) (r .range-fits .result) (r .range-fits .ensures) (c .enum-told .given .1)
 
 returns-2 : tie.Need-returns-2
-returns-2 c =
+returns-2 c h e =
     let f = c .before .before in
     let told = f .before .before in
     let r = told .before .before in
     let n = r .before in
-    let a = n .before .before .before .args in (
-      λ h. part-answered (h .text) (a .result .now) (a .start) (a .count) (n .text-length .result) (n .text-length .ensures h) (r .range-fits .result) (r .range-fits .ensures) _ (told .range .given .1) (f .result-fits .result) (f .result-fits .ensures),
-      λ h e. part-refused (h .text) (a .result .now) (a .start) (a .count) (n .text-length .result) (n .text-length .ensures h) (r .range-fits .result) (r .range-fits .ensures) _ (told .range .given .1) (f .result-fits .result) (f .result-fits .ensures) _ _ (c .enum-told3 .given .1),
-    )
+    let a = n .before .before .before .args in
+    let old = a .result .now in
+    let d = piece-size (h .text) old (a .start) (a .count) (n .text-length .result) (n .text-length .ensures h) (r .range-fits .result) (r .range-fits .ensures) (told .range .given .1) in
+    part-served (h .text) old (a .start) (a .count) (n .text-length .result) (n .text-length .ensures h) (r .range-fits .result) (r .range-fits .ensures) (told .range .given .1)
+    (list-refused (take (a .count) (drop (a .start) (h .text))) old _ d (f .result-fits .result) (f .result-fits .ensures) (c .enum-told3 .given .1))
 
 write-part-requires : tie.Need-write-part-requires
 write-part-requires c κs =
-    let last = c .before in
-    let f = last .before .before in
+    let f = c .before .before .before in
     let told = f .before .before in
     let r = told .before .before in
     let n = r .before in
     let s = n .before .before .before in
     let a = s .args in
-    let h = s .pre .0 in (
+    let h = s .pre .0 in
+    let old = a .result .now in
+    let d = piece-size (h .text) old (a .start) (a .count) (n .text-length .result) (n .text-length .ensures h) (r .range-fits .result) (r .range-fits .ensures) (told .range .given .1) in (
       h,
       s .pre .1,
-      range-fits (h .text) (a .result .now) (a .start) (a .count) (n .text-length .result) (n .text-length .ensures h) (r .range-fits .result) (r .range-fits .ensures) _ (told .range .given .1),
-      part-fits (h .text) (a .result .now) (a .start) (a .count) (n .text-length .result) (n .text-length .ensures h) (r .range-fits .result) (r .range-fits .ensures) _ (told .range .given .1) (f .result-fits .result) (f .result-fits .ensures) _ (last .enum-told2 .given .1),
+      range-fits (h .text) old (a .start) (a .count) (n .text-length .result) (n .text-length .ensures h) (r .range-fits .result) (r .range-fits .ensures) (told .range .given .1),
+      omega (arith, d, list-fits (take (a .count) (drop (a .start) (h .text))) old _ d (f .result-fits .result) (f .result-fits .ensures) (c .before .enum-told2 .given .1)),
     )
 
-same-length : tie.Need-same-length
-same-length c = search needs
-
 returns-3 : tie.Need-returns-3
-returns-3 c =
+returns-3 c h e =
     let p = c .before .before in
-    let last = p .before .before in
-    let f = last .before .before in
+    let f = p .before .before .before .before in
     let told = f .before .before in
     let r = told .before .before in
     let n = r .before in
-    let a = n .before .before .before .args in (
-      λ h. part-answered (h .text) (a .result .now) (a .start) (a .count) (n .text-length .result) (n .text-length .ensures h) (r .range-fits .result) (r .range-fits .ensures) _ (told .range .given .1) (f .result-fits .result) (f .result-fits .ensures),
-      λ h e. part-done (h .text) (a .result .now) (a .start) (a .count) (n .text-length .result) (n .text-length .ensures h) (r .range-fits .result) (r .range-fits .ensures) _ (told .range .given .1) (f .result-fits .result) (f .result-fits .ensures) _ _ (last .enum-told2 .given .1) (p .write-part .ensures h e),
-    )
+    let a = n .before .before .before .args in
+    let old = a .result .now in
+    let d = piece-size (h .text) old (a .start) (a .count) (n .text-length .result) (n .text-length .ensures h) (r .range-fits .result) (r .range-fits .ensures) (told .range .given .1) in
+    let same = piece-same (h .text) old (a .start) (a .count) (n .text-length .result) (n .text-length .ensures h) (r .range-fits .result) (r .range-fits .ensures) (told .range .given .1) in
+    part-served (h .text) old (a .start) (a .count) (n .text-length .result) (n .text-length .ensures h) (r .range-fits .result) (r .range-fits .ensures) (told .range .given .1)
+    (list-written (take (a .count) (drop (a .start) (h .text))) old _ d (f .result-fits .result) (f .result-fits .ensures) (p .write-part .last .1 .1 .1 .1 .0) (p .before .before .enum-told2 .given .1)
+    (p .write-part .ensures h e ∙ ap (λ (l : List ℕ). placed l old) same))
 
 pub deliver-part-spec : {M : Type 1} → statement M
 deliver-part-spec =
     tie.close
-    (tie.spec
-    text-length-requires
-    range-fits-requires
-    enum-known-range
-    enum-told
-    returns
-    result-fits-requires
-    enum-told-2
-    enum-told-3
-    returns-2
-    write-part-requires
-    same-length
-    returns-3)
+    (tie.spec text-length-requires (λ c κs. search needs) (λ c. search needs) (λ c. search needs) returns (λ c κs. search needs) (λ c. search needs) (λ c. search needs)
+    returns-2 write-part-requires (λ c. search needs) returns-3)

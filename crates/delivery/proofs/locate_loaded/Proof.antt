@@ -4,9 +4,6 @@ use Rattle.delivery.proofs.Counting.{in-order, finds}
 use Rattle.delivery.proofs.locate_loaded.Statement.{statement}
 use Rattle.delivery.proofs.locate_loaded.Tie as tie
 
-count-loaded-requires : tie.Need-count-loaded-requires
-count-loaded-requires c κs = search needs
-
 deliver-found-requires : tie.Need-deliver-found-requires
 unfolding finds
 deliver-found-requires c κs =
@@ -17,27 +14,14 @@ deliver-found-requires c κs =
     let (number, searched) = k .count-loaded .ensures h (s .pre .1) (s .pre .2) in
     (finds (a .order) (a .pattern .now) (h .text) (k .count-loaded .last .1 .1 .1 .0) (h .chair) searched, in-order (a .order) (a .work .now) h (a .rules) (s .pre .1) (s .pre .2), number)
 
-same-length : tie.Need-same-length
-same-length c = search needs
-
-same-length-2 : tie.Need-same-length-2
-same-length-2 c = search needs
-
 returns : tie.Need-returns
 unfolding finds
-returns c =
+returns c h e q =
     let d = c .before .before in
     let k = d .before .before .before .before .before in
-    let a = k .before .before .before .before .before .args in (
-      λ h e q.
-          let (number, searched) = k .count-loaded .ensures h e q in
-          d .deliver-found .ensures .0 (finds (a .order) (a .pattern .now) (h .text) (k .count-loaded .last .1 .1 .1 .0) (h .chair) searched) number,
-      λ h e q.
-          let (number, searched) = k .count-loaded .ensures h e q in
-          d .deliver-found .ensures .1 (finds (a .order) (a .pattern .now) (h .text) (k .count-loaded .last .1 .1 .1 .0) (h .chair) searched) (in-order (a .order) (a .work .now) h (a .rules) e q) number,
-    )
+    let a = k .before .before .before .before .before .args in
+    let (number, searched) = k .count-loaded .ensures h e q in
+    d .deliver-found .ensures (finds (a .order) (a .pattern .now) (h .text) (k .count-loaded .last .1 .1 .1 .0) (h .chair) searched) (in-order (a .order) (a .work .now) h (a .rules) e q) number
 
 pub locate-loaded-spec : {M : Type 1} → statement M
-locate-loaded-spec =
-    tie.close
-    (tie.spec count-loaded-requires deliver-found-requires same-length same-length-2 returns)
+locate-loaded-spec = tie.close (tie.spec (λ c κs. search needs) deliver-found-requires (λ c. search needs) (λ c. search needs) returns)

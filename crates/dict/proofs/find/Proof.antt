@@ -17,18 +17,12 @@ Inv-loop rules links n x y r₀ r = Walk rules n x y r
 abbrev μ-loop : tie.MeasureT-loop
 μ-loop rules links n x y r₀ r = r
 
-bucket-requires : tie.Need-bucket-requires Inv-loop μ-loop
-bucket-requires c κs = tt
-
 mul-wide : tie.Need-mul-wide Inv-loop μ-loop
 mul-wide c = omega (arith, c .bucket .ensures, bucket-small (c .before .before .before .args .x) (c .before .before .before .args .y))
 
 shared-slice-read-wide : tie.Need-shared-slice-read-wide Inv-loop μ-loop
 shared-slice-read-wide c =
     let a = c .before .before .before .before .args in omega (arith, c .before .bucket .ensures, bucket-small (a .x) (a .y))
-
-wide-requires : tie.Need-wide-requires Inv-loop μ-loop
-wide-requires c κs = tt
 
 loop-holds : tie.Need-loop-holds Inv-loop μ-loop
 loop-holds c =
@@ -38,30 +32,6 @@ loop-holds c =
     walk-start (a .rules .now) (a .links .now) (a .n) (a .x) (a .y) (c .wide .result) (s .pre .0) (bucket-small (a .x) (a .y))
     (c .wide .ensures ∙ ap (λ (k : ℕ). getD (a .links .now) k 0) (b .bucket .ensures))
 
-mul-k : tie.Need-mul-k Inv-loop μ-loop
-mul-k c = omega arith
-
-sub-k : tie.Need-sub-k Inv-loop μ-loop
-sub-k c = omega arith
-
-mul-if1 : tie.Need-mul-if1 Inv-loop μ-loop
-mul-if1 c = omega arith
-
-shared-slice-read-if1 : tie.Need-shared-slice-read-if1 Inv-loop μ-loop
-shared-slice-read-if1 c = omega arith
-
-add-if2 : tie.Need-add-if2 Inv-loop μ-loop
-add-if2 c = omega arith
-
-mul-if2 : tie.Need-mul-if2 Inv-loop μ-loop
-mul-if2 c = omega arith
-
-shared-slice-read-if2 : tie.Need-shared-slice-read-if2 Inv-loop μ-loop
-shared-slice-read-if2 c = omega arith
-
-sub-result : tie.Need-sub-result Inv-loop μ-loop
-sub-result c = omega arith
-
 returns : tie.Need-returns Inv-loop μ-loop
 returns c =
     let first = c .before .before in
@@ -69,18 +39,6 @@ returns c =
     let a = at .before .before .before .before .before .before .args in
     walk-found (a .rules .now) (a .n) (a .x) (a .y) (at .loop .r) (at .loop .inv) (omega arith)
     (rule-here (a .rules .now) (a .x) (a .y) (at .loop .r) (omega arith) (first .if1 .taken) (c .if2 .taken))
-
-add-wide : tie.Need-add-wide Inv-loop μ-loop
-add-wide c = omega arith
-
-mul-wide-2 : tie.Need-mul-wide-2 Inv-loop μ-loop
-mul-wide-2 c = omega arith
-
-shared-slice-read-wide-2 : tie.Need-shared-slice-read-wide-2 Inv-loop μ-loop
-shared-slice-read-wide-2 c = omega arith
-
-wide-requires-2 : tie.Need-wide-requires-2 Inv-loop μ-loop
-wide-requires-2 c κs = tt
 
 loop-less : tie.Need-loop-less Inv-loop μ-loop
 loop-less c =
@@ -113,27 +71,6 @@ returns-2 c =
 pub find-spec : {M : Type 1} → statement M
 find-spec =
     tie.close
-    (tie.spec
-    Inv-loop
-    μ-loop
-    bucket-requires
-    mul-wide
-    shared-slice-read-wide
-    wide-requires
-    loop-holds
-    mul-k
-    sub-k
-    mul-if1
-    shared-slice-read-if1
-    add-if2
-    mul-if2
-    shared-slice-read-if2
-    sub-result
-    returns
-    add-wide
-    mul-wide-2
-    shared-slice-read-wide-2
-    wide-requires-2
-    loop-less
-    loop-again
-    returns-2)
+    (tie.spec Inv-loop μ-loop (λ c κs. tt) mul-wide shared-slice-read-wide (λ c κs. tt) loop-holds (λ c. omega arith) (λ c. omega arith)
+    (λ c. omega arith) (λ c. omega arith) (λ c. omega arith) (λ c. omega arith) (λ c. omega arith) (λ c. omega arith) returns (λ c. omega arith)
+    (λ c. omega arith) (λ c. omega arith) (λ c κs. tt) loop-less loop-again returns-2)

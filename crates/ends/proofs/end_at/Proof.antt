@@ -13,12 +13,6 @@ use Rattle.ends.proofs.Areas.{text-kept, opened, finished}
 use Rattle.ends.proofs.end_at.Statement.{statement}
 use Rattle.ends.proofs.end_at.Tie as tie
 
-add-put : tie.Need-add-put
-add-put c = search needs
-
-put-requires : tie.Need-put-requires
-put-requires c κs = search needs
-
 merge-requires : tie.Need-merge-requires
 merge-requires c κs =
     let p = c .before .before .before in
@@ -30,21 +24,6 @@ merge-requires c κs =
       subst (λ (l : List ℕ). Ended (part 0 (a .n) l) (suc (a .i)) l) (sym (p .put .ensures)) e,
       subst (λ (l : List ℕ). getD l (CLOSINGS + a .i) 0 ≡ 0) (sym (p .put .ensures)) z,
     )
-
-add-put-2 : tie.Need-add-put-2
-add-put-2 c = search needs
-
-sub-put : tie.Need-sub-put
-sub-put c = search needs
-
-cast-put : tie.Need-cast-put
-cast-put c = search needs
-
-put-requires-2 : tie.Need-put-requires-2
-put-requires-2 c κs = search needs
-
-same-length : tie.Need-same-length
-same-length c = search needs
 
 returns : tie.Need-returns
 returns c =
@@ -64,13 +43,5 @@ returns c =
 pub end-at-spec : {M : Type 1} → statement M
 end-at-spec =
     tie.close
-    (tie.spec
-    add-put
-    put-requires
-    merge-requires
-    add-put-2
-    sub-put
-    cast-put
-    put-requires-2
-    same-length
-    returns)
+    (tie.spec (λ c. search needs) (λ c κs. search needs) merge-requires (λ c. search needs) (λ c. search needs) (λ c. search needs)
+    (λ c κs. search needs) (λ c. search needs) returns)

@@ -19,9 +19,6 @@ abbrev μ-loop : tie.MeasureT-loop
 loop-holds : tie.Need-loop-holds Inv-loop μ-loop
 loop-holds c = let a = c .before .args in (omega arith, refl, none-ended (a .work .now) (a .n) (omega arith))
 
-sub-i : tie.Need-sub-i Inv-loop μ-loop
-sub-i c = omega arith
-
 end-at-requires : tie.Need-end-at-requires Inv-loop μ-loop
 end-at-requires c κs =
     let at = c .before .before in
@@ -29,9 +26,6 @@ end-at-requires c κs =
     let back : suc (at .loop .i - 1) ≡ at .loop .i = omega arith in
     let e = text-same (a .work .now) (at .loop .work) (a .n) (at .loop .i) (omega arith) (at .loop .inv .2) in
     (omega arith, omega arith, omega arith, rw (e, back) (at .loop .inv .2))
-
-loop-less : tie.Need-loop-less Inv-loop μ-loop
-loop-less c = omega arith
 
 loop-again : tie.Need-loop-again Inv-loop μ-loop
 loop-again c =
@@ -50,15 +44,4 @@ returns : tie.Need-returns Inv-loop μ-loop
 returns c = let at = c .before in let z : at .loop .i ≡ 0 = omega arith in rw z at (at .loop .inv .2)
 
 pub ends-spec : {M : Type 1} → statement M
-ends-spec =
-    tie.close
-    (tie.spec
-    Inv-loop
-    μ-loop
-    loop-holds
-    sub-i
-    end-at-requires
-    loop-less
-    loop-again
-    same-length
-    returns)
+ends-spec = tie.close (tie.spec Inv-loop μ-loop loop-holds (λ c. omega arith) end-at-requires (λ c. omega arith) loop-again same-length returns)

@@ -19,9 +19,6 @@ Inv-loop work₀ n i j₀ work j = (length work ≡ length work₀) × ((t : Tre
 abbrev μ-loop : tie.MeasureT-loop
 μ-loop work₀ n i j₀ work j = n - j
 
-add-j : tie.Need-add-j Inv-loop μ-loop
-add-j c = omega arith
-
 loop-holds : tie.Need-loop-holds Inv-loop μ-loop
 loop-holds c =
     let a = c .before .args in
@@ -32,27 +29,6 @@ loop-holds c =
         starts (part 0 (a .n) (a .work .now)) (a .i) (a .work .now) (omega arith) (omega arith) (c .before .pre .3) (c .before .pre .4),
       ),
     )
-
-add-wide : tie.Need-add-wide Inv-loop μ-loop
-add-wide c = omega arith
-
-mul-wide : tie.Need-mul-wide Inv-loop μ-loop
-mul-wide c = omega arith
-
-slice-read-wide : tie.Need-slice-read-wide Inv-loop μ-loop
-slice-read-wide c = omega arith
-
-wide-requires : tie.Need-wide-requires Inv-loop μ-loop
-wide-requires c κs = tt
-
-sub-before : tie.Need-sub-before Inv-loop μ-loop
-sub-before c = omega arith
-
-part-before-start : tie.Need-part-before-start Inv-loop μ-loop
-part-before-start c = omega arith
-
-part-before-end : tie.Need-part-before-end Inv-loop μ-loop
-part-before-end c = omega arith
 
 before-requires : tie.Need-before-requires Inv-loop μ-loop
 before-requires c κs =
@@ -146,27 +122,6 @@ returns-2 c =
 pub merge-spec : {M : Type 1} → statement M
 merge-spec =
     tie.close
-    (tie.spec
-    Inv-loop
-    μ-loop
-    add-j
-    loop-holds
-    add-wide
-    mul-wide
-    slice-read-wide
-    wide-requires
-    sub-before
-    part-before-start
-    part-before-end
-    before-requires
-    same-length
-    returns
-    add-bump
-    add-bump-2
-    sub-bump
-    bump-requires
-    add-j-2
-    loop-less
-    loop-again
-    same-length-2
-    returns-2)
+    (tie.spec Inv-loop μ-loop (λ c. omega arith) loop-holds (λ c. omega arith) (λ c. omega arith) (λ c. omega arith) (λ c κs. tt) (λ c. omega arith)
+    (λ c. omega arith) (λ c. omega arith) before-requires same-length returns add-bump add-bump-2 sub-bump bump-requires add-j-2 loop-less loop-again
+    same-length-2 returns-2)

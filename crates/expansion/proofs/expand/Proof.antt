@@ -4,8 +4,9 @@ use Prim.Native.Nat.{_+_, _-_, _≤_}
 use native.Mathlib.Omega.{arith}
 use lib.ListN.{length}
 use borrow.Author.Needs.{needs}
+use Rattle.expansion.specs.declared.Turn.the-variants.{Next}
 use Rattle.expansion.specs.Expansion.{Expanding, Stepped}
-use Rattle.expansion.proofs.Walking.{walk-start, walk-long, walk-whole}
+use Rattle.expansion.proofs.Walking.{walk-start, walk-long}
 use Rattle.expansion.proofs.expand.Statement.{statement}
 use Rattle.expansion.proofs.expand.Tie as tie
 
@@ -16,17 +17,11 @@ Inv-loop order table work₀ root p₀ work p =
 abbrev μ-loop : tie.MeasureT-loop
 μ-loop order table work₀ root p₀ work p = 4098 - (p .written + p .written + p .pending)
 
-sub-root : tie.Need-sub-root Inv-loop μ-loop
-sub-root c = omega (arith, c .before .before .pre .0 .even, c .before .before .pre .0 .filled)
-
 loop-holds : tie.Need-loop-holds Inv-loop μ-loop
 loop-holds c =
     let s = c .before .before in
     let a = s .args in
     (refl, omega arith, walk-start (a .order) (a .table .now) (a .work .now) (s .pre .0))
-
-add-if1 : tie.Need-add-if1 Inv-loop μ-loop
-add-if1 c = omega (arith, c .before .loop .inv .1)
 
 expand-rule-requires : tie.Need-expand-rule-requires Inv-loop μ-loop
 expand-rule-requires c κs =
@@ -40,29 +35,22 @@ expand-rule-requires c κs =
       expanding = at .loop .inv .2;
     }
 
-enum-known-t : tie.Need-enum-known-t Inv-loop μ-loop
-enum-known-t c = search needs
-
-loop-less : tie.Need-loop-less Inv-loop μ-loop
-loop-less c =
-    let r = c .before .before .before .before .before in
+-- the walk has gone on
+gone-on : (c : tie.After-t Inv-loop μ-loop) → let r = c .before .before .before .before in
     let at = r .before .before .before .before in
-    let s = at .before .before .before in
-    let a = s .args in
-    let e = subst (λ x. Stepped (a .order) (a .table .now) (r .expand-rule .last .1 .1 .0) (at .loop .p .written) (at .loop .p .pending) x) (c .before .t .given .1) (r .expand-rule .ensures) in
-    omega (arith, e .1, e .2, at .loop .inv .1)
+    let a = at .before .before .before .args in
+    Stepped (a .order) (a .table .now) (r .expand-rule .last .1 .1 .0) (at .loop .p .written) (at .loop .p .pending) (Next (c .t .given .0 .0))
+gone-on c =
+    let r = c .before .before .before .before in
+    let at = r .before .before .before .before in
+    let a = at .before .before .before .args in
+    subst (Stepped (a .order) (a .table .now) (r .expand-rule .last .1 .1 .0) (at .loop .p .written) (at .loop .p .pending)) (c .t .given .1) (r .expand-rule .ensures)
 
 loop-again : tie.Need-loop-again Inv-loop μ-loop
 loop-again c =
     let r = c .before .before .before .before .before in
-    let at = r .before .before .before .before in
-    let s = at .before .before .before in
-    let a = s .args in
-    let e = subst (λ x. Stepped (a .order) (a .table .now) (r .expand-rule .last .1 .1 .0) (at .loop .p .written) (at .loop .p .pending) x) (c .before .t .given .1) (r .expand-rule .ensures) in
-    (r .expand-rule .kept .1 .1 .0 ∙ at .loop .inv .0, e .2, e .0)
-
-enum-known-t-2 : tie.Need-enum-known-t-2 Inv-loop μ-loop
-enum-known-t-2 c = search needs
+    let (next, nearer, room) = gone-on (c .before) in
+    (r .expand-rule .kept .1 .1 .0 ∙ r .before .before .before .before .loop .inv .0, room, next)
 
 same-length : tie.Need-same-length Inv-loop μ-loop
 same-length c =
@@ -73,13 +61,8 @@ returns : tie.Need-returns Inv-loop μ-loop
 returns c =
     let r = c .before .before .before .before .before in
     let at = r .before .before .before .before in
-    let s = at .before .before .before in
-    let a = s .args in
-    walk-whole (a .order) (a .table .now) (r .expand-rule .last .1 .1 .0) (c .before .t2 .given .0 .0)
-    (subst (λ x. Stepped (a .order) (a .table .now) (r .expand-rule .last .1 .1 .0) (at .loop .p .written) (at .loop .p .pending) x) (c .before .t2 .given .1) (r .expand-rule .ensures))
-
-same-length-2 : tie.Need-same-length-2 Inv-loop μ-loop
-same-length-2 c = c .before .before .loop .inv .0
+    let a = at .before .before .before .args in
+    subst (Stepped (a .order) (a .table .now) (r .expand-rule .last .1 .1 .0) (at .loop .p .written) (at .loop .p .pending)) (c .before .t2 .given .1) (r .expand-rule .ensures)
 
 returns-2 : tie.Need-returns-2 Inv-loop μ-loop
 returns-2 c =
@@ -91,18 +74,5 @@ returns-2 c =
 pub expand-spec : {M : Type 1} → statement M
 expand-spec =
     tie.close
-    (tie.spec
-    Inv-loop
-    μ-loop
-    sub-root
-    loop-holds
-    add-if1
-    expand-rule-requires
-    enum-known-t
-    loop-less
-    loop-again
-    enum-known-t-2
-    same-length
-    returns
-    same-length-2
-    returns-2)
+    (tie.spec Inv-loop μ-loop (λ c. omega (arith, c .before .before .pre .0 .even, c .before .before .pre .0 .filled)) loop-holds (λ c. omega (arith, c .before .loop .inv .1)) expand-rule-requires (λ c. search needs) (λ c. omega (arith, gone-on (c .before) .1, gone-on (c .before) .2)) loop-again (λ c. search needs)
+    same-length returns (λ c. c .before .before .loop .inv .0) returns-2)

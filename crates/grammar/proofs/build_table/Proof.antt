@@ -11,24 +11,12 @@ use Rattle.grammar.proofs.Tabling.{ended-numbers, ended-numbered, rules
 use Rattle.grammar.proofs.build_table.Statement.{statement}
 use Rattle.grammar.proofs.build_table.Tie as tie
 
-ends-requires : tie.Need-ends-requires
-ends-requires c κs = search needs
-
 rules-requires : tie.Need-rules-requires
 rules-requires c κs =
     let e = c .before .before .before in
     let s = e .before .before .before in
     let a = s .args in
     ended-numbers (a .order) (a .n) (a .chair) (a .work .now) (e .ends .last .0) (s .pre) (e .ends .ensures) (e .ends .kept .0)
-
-add-put : tie.Need-add-put
-add-put c = search needs
-
-put-requires : tie.Need-put-requires
-put-requires c κs = search needs
-
-same-length : tie.Need-same-length
-same-length c = search needs
 
 returns : tie.Need-returns
 returns c =
@@ -47,5 +35,4 @@ returns c =
     )
 
 pub build-table-spec : {M : Type 1} → statement M
-build-table-spec =
-    tie.close (tie.spec ends-requires rules-requires add-put put-requires same-length returns)
+build-table-spec = tie.close (tie.spec (λ c κs. search needs) rules-requires (λ c. search needs) (λ c κs. search needs) (λ c. search needs) returns)

@@ -29,12 +29,6 @@ step-requires c κs =
     let a = s .args in
     stage-steps (a .order) (a .n) (a .work .now) (at .loop .work) (at .loop .c .rules) (at .loop .c .depth) (at .loop .i) (s .pre .0) (at .loop .inv .2) (at .loop .inv .3) (omega arith)
 
-add-i : tie.Need-add-i Inv-loop μ-loop
-add-i c = omega arith
-
-loop-less : tie.Need-loop-less Inv-loop μ-loop
-loop-less c = omega arith
-
 loop-again : tie.Need-loop-again Inv-loop μ-loop
 unfolding stage-steps
 loop-again c =
@@ -62,15 +56,4 @@ returns c =
     (r, e, at .loop .inv .2)
 
 pub number-spec : {M : Type 1} → statement M
-number-spec =
-    tie.close
-    (tie.spec
-    Inv-loop
-    μ-loop
-    loop-holds
-    step-requires
-    add-i
-    loop-less
-    loop-again
-    same-length
-    returns)
+number-spec = tie.close (tie.spec Inv-loop μ-loop loop-holds step-requires (λ c. omega arith) (λ c. omega arith) loop-again same-length returns)

@@ -9,18 +9,6 @@ use Rattle.grammar.proofs.Tabling.{cleared-numbers, cleared-buckets, cl
 use Rattle.grammar.proofs.rules.Statement.{statement}
 use Rattle.grammar.proofs.rules.Tie as tie
 
-sub-clear : tie.Need-sub-clear
-sub-clear c = search needs
-
-part-clear-start : tie.Need-part-clear-start
-part-clear-start c = search needs
-
-part-clear-end : tie.Need-part-clear-end
-part-clear-end c = search needs
-
-clear-requires : tie.Need-clear-requires
-clear-requires c κs = search needs
-
 number-requires : tie.Need-number-requires
 number-requires c κs =
     let l = c .before .before .before in
@@ -29,9 +17,6 @@ number-requires c κs =
       cleared-numbers (a .work .now) (l .clear .last .0) (s .pre .long) (l .clear .ensures) (a .n) (s .pre),
       cleared-buckets (a .work .now) (l .clear .last .0) (s .pre .long) (l .clear .ensures),
     )
-
-same-length : tie.Need-same-length
-same-length c = search needs
 
 returns : tie.Need-returns
 returns c =
@@ -49,11 +34,4 @@ returns c =
 pub rules-spec : {M : Type 1} → statement M
 rules-spec =
     tie.close
-    (tie.spec
-    sub-clear
-    part-clear-start
-    part-clear-end
-    clear-requires
-    number-requires
-    same-length
-    returns)
+    (tie.spec (λ c. search needs) (λ c. search needs) (λ c. search needs) (λ c κs. search needs) number-requires (λ c. search needs) returns)

@@ -5,24 +5,6 @@ use Rattle.grammar.proofs.Stepping.{step-push, step-join, step-done}
 use Rattle.grammar.proofs.step.Statement.{statement}
 use Rattle.grammar.proofs.step.Tie as tie
 
-mul-number-of-rank : tie.Need-mul-number-of-rank
-mul-number-of-rank c = search needs
-
-slice-read-number-of-rank : tie.Need-slice-read-number-of-rank
-slice-read-number-of-rank c = search needs
-
-number-of-rank-requires : tie.Need-number-of-rank-requires
-number-of-rank-requires c κs = search needs
-
-add-k : tie.Need-add-k
-add-k c = search needs
-
-mul-k : tie.Need-mul-k
-mul-k c = search needs
-
-slice-read-k : tie.Need-slice-read-k
-slice-read-k c = search needs
-
 push-rule-requires : tie.Need-push-rule-requires
 push-rule-requires c κs =
     let x = c .before .before in
@@ -38,9 +20,6 @@ join-all-requires c κs =
     let a = s .args in
     step-join (a .order) (a .work .now) (a .c .rules) (a .c .depth) (a .i) (s .pre) (x .number-of-rank .result) (x .number-of-rank .ensures)
     (f .push-rule .last .0) (f .push-rule .result .rules) (f .push-rule .result .depth) (f .push-rule .ensures .0)
-
-same-length : tie.Need-same-length
-same-length c = search needs
 
 returns : tie.Need-returns
 returns c =
@@ -58,14 +37,5 @@ returns c =
 pub step-spec : {M : Type 1} → statement M
 step-spec =
     tie.close
-    (tie.spec
-    mul-number-of-rank
-    slice-read-number-of-rank
-    number-of-rank-requires
-    add-k
-    mul-k
-    slice-read-k
-    push-rule-requires
-    join-all-requires
-    same-length
-    returns)
+    (tie.spec (λ c. search needs) (λ c. search needs) (λ c κs. search needs) (λ c. search needs) (λ c. search needs) (λ c. search needs)
+    push-rule-requires join-all-requires (λ c. search needs) returns)

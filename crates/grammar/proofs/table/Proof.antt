@@ -5,12 +5,6 @@ use Rattle.grammar.proofs.Tabling.{placed-marked, stored-here}
 use Rattle.grammar.proofs.table.Statement.{statement}
 use Rattle.grammar.proofs.table.Tie as tie
 
-add-n : tie.Need-add-n
-add-n c = search needs
-
-place-text-requires : tie.Need-place-text-requires
-place-text-requires c κs = search needs
-
 build-table-requires : tie.Need-build-table-requires
 build-table-requires c κs =
     let p = c .before .before .before in
@@ -19,9 +13,6 @@ build-table-requires c κs =
     let a = s .args in
     placed-marked (a .order) (a .text .now) (a .work .now) (p .place-text .last .1 .1 .0) (a .chair)
     (stored-here (a .text .now) (a .chair) (omega arith) (λ i h. omega (arith, k .shared-slice-known .given i)) (omega arith)) (omega arith) (p .place-text .ensures)
-
-same-length : tie.Need-same-length
-same-length c = search needs
 
 returns : tie.Need-returns
 unfolding placed-marked
@@ -36,5 +27,4 @@ returns c =
     (stored, l, r)
 
 pub table-spec : {M : Type 1} → statement M
-table-spec =
-    tie.close (tie.spec add-n place-text-requires build-table-requires same-length returns)
+table-spec = tie.close (tie.spec (λ c. search needs) (λ c κs. search needs) build-table-requires (λ c. search needs) returns)

@@ -1,47 +1,24 @@
--- `build` ends in one of three ways: refused by 1, refused by 4, or built and delivered.
-use mathlib.Core.Path.{refl}
-use mathlib.Core.List.{[], _∷_}
+-- `build` is refused by the text or the work slice; else it is decided by delivering the table, and the work slice is cleared.
+use mathlib.Core.Path.{refl, ap}
+use native.Mathlib.Omega.{arith}
 use lib.ListN.{length}
-use borrow.Author.Tests.{ltb-false}
-use Rattle.definitions.specs.declared.Order.the-variants.{Unsigned}
-use Rattle.definitions.specs.Table.{tableOf}
-use Rattle.definitions.specs.Services.{outcomeOf, textTooLong, workTooShort, resultTooShort, buildService}
-use Rattle.lists.specs.Decisions.{met, later, none, more}
-use Rattle.layout.specs.Layout.{WORK}
-use Rattle.checks.proofs.Answers.{refused-met, done-met}
-use Rattle.checks.proofs.Serving.{refused-first, refused-front, decided, answered-one}
 use borrow.Author.Needs.{needs}
+use borrow.Author.Tests.{ltb-false}
+use Rattle.definitions.specs.Services.{outcomeOf, textTooLong, workTooShort, buildService}
+use Rattle.lists.specs.Decisions.{met, later, none, more, refused-met, done-met}
+use Rattle.lists.specs.Serving.{refused-by, passed, worked}
+use Rattle.layout.specs.Layout.{WORK}
+use Rattle.checks.proofs.Fronts.{work-cleared}
 use Rattle.index.proofs.build.Statement.{statement}
 use Rattle.index.proofs.build.Tie as tie
-
-text-fits-requires : tie.Need-text-fits-requires
-text-fits-requires c κs = search needs
-
-enum-told : tie.Need-enum-told
-enum-told c = search needs
-
-enum-told-2 : tie.Need-enum-told-2
-enum-told-2 c = search needs
 
 returns : tie.Need-returns
 unfolding buildService outcomeOf
 returns c =
     let f = c .before .before in
-    let a = f .before .before .before .before .args in
-    let long = textTooLong (a .text .now) in
-    let front = long ∷ workTooShort (length (a .work .now)) ∷ [] in
-    let q = refused-met long (length (a .text .now)) _ _ (f .text-fits .result) (f .text-fits .ensures) (c .enum-told2 .given .1) in
-    refused-front (buildService Unsigned (a .text .now) (a .chair) (length (a .work .now)) (length (a .result .now))) front (resultTooShort (length (tableOf Unsigned (a .text .now) (a .chair))) (length (a .result .now)) ∷ []) refl outcomeOf (λ x y. refl) (a .work .now) (a .result .now) (refl, (refl, refl)) (f .text-fits .result) 0 _ _
-    (refused-first long (length (a .text .now)) 0 front (f .text-fits .result) (f .text-fits .ensures) q (met q)) (c .enum-told2 .given .1)
-
-work-fits-requires : tie.Need-work-fits-requires
-work-fits-requires c κs = search needs
-
-enum-told-3 : tie.Need-enum-told-3
-enum-told-3 c = search needs
-
-enum-told-4 : tie.Need-enum-told-4
-enum-told-4 c = search needs
+    let text = f .before .before .before .before .args .text .now in
+    let (q, e) = refused-met (textTooLong text) (length text) (f .text-fits .ensures) (c .enum-told2 .given .1) in
+    refused-by (textTooLong text) (met q) (ap outcomeOf e) refl
 
 returns-2 : tie.Need-returns-2
 unfolding buildService outcomeOf
@@ -49,60 +26,50 @@ returns-2 c =
     let w = c .before .before in
     let f = w .before .before .before in
     let a = f .before .before .before .before .args in
-    let long = textTooLong (a .text .now) in
-    let short = workTooShort (length (a .work .now)) in
-    let front = long ∷ short ∷ [] in
-    let fits = done-met long (length (a .text .now)) _ (f .text-fits .result) (f .text-fits .ensures) (w .before .enum-told .given .1) in
-    let q = refused-met short (length (a .work .now)) _ _ (w .work-fits .result) (w .work-fits .ensures) (c .enum-told4 .given .1) in
-    refused-front (buildService Unsigned (a .text .now) (a .chair) (length (a .work .now)) (length (a .result .now))) front (resultTooShort (length (tableOf Unsigned (a .text .now) (a .chair))) (length (a .result .now)) ∷ []) refl outcomeOf (λ x y. refl) (a .work .now) (a .result .now) (refl, (refl, refl)) (w .work-fits .result) 0 _ _
-    (refused-first short (length (a .work .now)) 0 front (w .work-fits .result) (w .work-fits .ensures) q (later long fits (met q))) (c .enum-told4 .given .1)
+    let text = a .text .now in
+    let n = length (a .work .now) in
+    let (q, e) = refused-met (workTooShort n) n (w .work-fits .ensures) (c .enum-told4 .given .1) in
+    refused-by (workTooShort n) (later (textTooLong text) (done-met (textTooLong text) (length text) (f .text-fits .ensures) (w .before .enum-told .given .1) .0) (met q)) (ap outcomeOf e) refl
 
-build-checked-requires : tie.Need-build-checked-requires
-build-checked-requires c κs =
-    let t = c .before .before in
-    let w = t .before .before in
-    let f = w .before .before .before in
+part-build-in-end : tie.Need-part-build-in-end
+part-build-in-end c =
+    let w = c .before .before in
+    let n = length (w .before .before .before .before .before .before .before .args .work .now) in
+    ltb-false n WORK (done-met (workTooShort n) n (w .work-fits .ensures) (c .enum-told3 .given .1) .0)
+
+build-in-requires : tie.Need-build-in-requires
+build-in-requires c κs =
+    let k = c .before .before in
+    let f = k .before .before .before .before .before in
     let a = f .before .before .before .before .args in
-    let fits = done-met (textTooLong (a .text .now)) (length (a .text .now)) _ (f .text-fits .result) (f .text-fits .ensures) (w .before .enum-told .given .1) in
-    let room = done-met (workTooShort (length (a .work .now))) (length (a .work .now)) _ (w .work-fits .result) (w .work-fits .ensures) (t .enum-told3 .given .1) in
-    (ltb-false 2047 (length (a .text .now)) fits, ltb-false (length (a .work .now)) WORK room)
+    (ltb-false 2047 (length (a .text .now)) (done-met (textTooLong (a .text .now)) (length (a .text .now)) (f .text-fits .ensures) (k .before .before .before .enum-told .given .1) .0), search needs)
 
-same-length : tie.Need-same-length
-same-length c = search needs
-
-same-length-2 : tie.Need-same-length-2
-same-length-2 c = search needs
+clear-front-requires : tie.Need-clear-front-requires
+clear-front-requires c κs =
+    let k = c .before .before .before .before .before .before .before .before in
+    let w = k .before .before in
+    let n = length (w .before .before .before .before .before .before .before .args .work .now) in
+    omega (arith, ltb-false n WORK (done-met (workTooShort n) n (w .work-fits .ensures) (k .enum-told3 .given .1) .0))
 
 returns-3 : tie.Need-returns-3
-unfolding buildService outcomeOf
+unfolding buildService
 returns-3 c =
-    let b = c .before .before .before .before in
-    let t = b .before .before .before in
-    let w = t .before .before in
+    let z = c .before .before in
+    let b = z .before .before .before .before .before .before in
+    let k = b .before .before .before in
+    let w = k .before .before in
     let f = w .before .before .before in
     let a = f .before .before .before .before .args in
-    let long = textTooLong (a .text .now) in
-    let short = workTooShort (length (a .work .now)) in
-    let table = tableOf Unsigned (a .text .now) (a .chair) in
-    let needed = resultTooShort (length table) (length (a .result .now)) in
-    let fits = done-met long (length (a .text .now)) _ (f .text-fits .result) (f .text-fits .ensures) (w .before .enum-told .given .1) in
-    let room = done-met short (length (a .work .now)) _ (w .work-fits .result) (w .work-fits .ensures) (t .enum-told3 .given .1) in
-    decided (buildService Unsigned (a .text .now) (a .chair) (length (a .work .now)) (length (a .result .now))) (long ∷ short ∷ []) (needed ∷ []) refl outcomeOf (λ x y. refl) (a .work .now) (a .result .now) (more long fits (more short room none)) (refl, refl)
-    (b .build-checked .result) (length table) (b .build-checked .last .1 .1 .1 .1 .0) (b .build-checked .last .1 .1 .1 .0) refl (answered-one needed (length table) (b .build-checked .result) (b .build-checked .ensures .0)) (b .build-checked .ensures .1 .0) (b .build-checked .ensures .1 .1)
+    let text = a .text .now in
+    let n = length (a .work .now) in
+    let room = done-met (workTooShort n) n (w .work-fits .ensures) (k .enum-told3 .given .1) .0 in
+    passed (more (textTooLong text) (done-met (textTooLong text) (length text) (f .text-fits .ensures) (w .before .enum-told .given .1) .0) (more (workTooShort n) room none))
+    (worked (a .work .now) (z .clear-front .last .0) (refl, refl)
+    (work-cleared (a .work .now) (b .build-in .last .1 .1 .0) (z .clear-front .last .0) (ltb-false n WORK room) (b .build-in .kept .1 .1 .0) (z .clear-front .ensures))
+    (b .build-in .ensures))
 
 pub build-spec : {M : Type 1} → statement M
 build-spec =
     tie.close
-    (tie.spec
-    text-fits-requires
-    enum-told
-    enum-told-2
-    returns
-    work-fits-requires
-    enum-told-3
-    enum-told-4
-    returns-2
-    build-checked-requires
-    same-length
-    same-length-2
-    returns-3)
+    (tie.spec (λ c κs. search needs) (λ c. search needs) (λ c. search needs) returns (λ c κs. search needs) (λ c. search needs) (λ c. search needs) returns-2
+    (λ c. search needs) (λ c. search needs) part-build-in-end build-in-requires clear-front-requires (λ c. search needs) (λ c. search needs) returns-3)

@@ -1,73 +1,37 @@
--- `check` ends in one of two ways: refused by the table's shape, or decided by what it spells.
-use mathlib.Core.Path.{refl, sym, _∙_, ap}
-use mathlib.Core.List.{[], _∷_}
-use Prim.Native.Nat.{ℕ}
-use lib.ListN.{length}
-use Rattle.definitions.specs.declared.Order.the-variants.{Unsigned}
-use Rattle.definitions.specs.Services.{outcomeOf, notATable, tableChecks, checkService}
-use Rattle.definitions.specs.Table.{ruleCount}
-use Rattle.checks.specs.Checks.{checked, delivered, shapeChecks}
-use Rattle.checks.proofs.Serving.{answered-one, refused-front, decided, done-all, done-value}
-use Rattle.shapes.proofs.Shaping.{shape-keeps, passed-shaped}
+-- `check` is refused where the table is not opened; else it is done, and the work slice is cleared.
+use mathlib.Core.Path.{refl, _∙_}
+use mathlib.Core.List.{[]}
 use borrow.Author.Needs.{needs}
+use Rattle.definitions.specs.Services.{outcomeOf, tableChecks, checkService}
+use Rattle.lists.specs.Decisions.{none}
+use Rattle.lists.specs.Serving.{answer-refuses, served, passed, worked}
+use Rattle.opening.proofs.Services.{opened-cleared, opening-refused, opening-done}
 use Rattle.index.proofs.check.Statement.{statement}
 use Rattle.index.proofs.check.Tie as tie
 
-shaped-requires : tie.Need-shaped-requires
-shaped-requires c κs = search needs
-
-enum-known-a : tie.Need-enum-known-a
-enum-known-a c = search needs
-
-enum-told : tie.Need-enum-told
-enum-told c = search needs
-
 returns : tie.Need-returns
-unfolding checkService tableChecks outcomeOf
+unfolding checkService tableChecks
 returns c =
-    let h = c .before .before in
-    let a = h .before .before .before .args in
-    let t = a .table .now in
-    let n = length (a .work .now) in
-    let served = refused-front (checkService Unsigned t n) (shapeChecks t n) (notATable Unsigned t ∷ []) refl outcomeOf (λ x y. refl) (a .work .now) [] (shape-keeps t n) (h .shaped .result) (ruleCount t) _ _ (h .shaped .ensures) (c .enum-told .given .1) in
-    (served .0, served .1 .1)
+    let m = c .before .before .before .before in
+    opening-refused [] (m .admit .ensures) (c .enum-told2 .given .1) (answer-refuses (m .admit .result)) (λ d. refl)
 
-check-shaped-requires : tie.Need-check-shaped-requires
-check-shaped-requires c κs =
-    let told = c .before .before in
-    let h = told .before .before in
-    let a = h .before .before .before .args in
-    let t = a .table .now in
-    let n = length (a .work .now) in
-    passed-shaped t n (done-all (shapeChecks t n) (ruleCount t) _ (sym (h .shaped .ensures) ∙ told .a .given .1))
-
-same-length : tie.Need-same-length
-same-length c = search needs
+clear-front-requires : tie.Need-clear-front-requires
+clear-front-requires c κs =
+    let k = c .before in
+    opening-done (k .before .before .before .before .admit .ensures) (k .enum-told .given .1) .1 .long
 
 returns-2 : tie.Need-returns-2
-unfolding checkService tableChecks outcomeOf
+unfolding checkService outcomeOf tableChecks
 returns-2 c =
-    let k = c .before .before in
-    let told = k .before .before .before in
-    let h = told .before .before in
-    let a = h .before .before .before .args in
-    let t = a .table .now in
-    let n = length (a .work .now) in
-    let passed = done-all (shapeChecks t n) (ruleCount t) _ (sym (h .shaped .ensures) ∙ told .a .given .1) in
-    let rules = done-value (shapeChecks t n) (ruleCount t) _ (sym (h .shaped .ensures) ∙ told .a .given .1) in
-    let answer = k .check-shaped .ensures .0 ∙ ap (λ (x : ℕ). checked (notATable Unsigned t) x) rules in
-    let served = decided (checkService Unsigned t n) (shapeChecks t n) (notATable Unsigned t ∷ []) refl outcomeOf (λ x y. refl) (a .work .now) [] passed (refl, refl) (k .check-shaped .result) (ruleCount t) (delivered (notATable Unsigned t ∷ []) [] []) (k .check-shaped .last .1 .1 .1 .0) refl
-    (answered-one (notATable Unsigned t) (ruleCount t) (k .check-shaped .result) answer) refl (k .check-shaped .ensures .1) in
-    (served .0, served .1 .1)
+    let z = c .before .before in
+    let k = z .before .before in
+    let m = k .before .before .before .before in
+    let a = m .before .before .before .before .args in
+    let (p, x, e) = opening-done (m .admit .ensures) (k .enum-told .given .1) in
+    passed p (worked (a .work .now) (z .clear-front .last .0) refl (z .clear-front .ensures ∙ opened-cleared x)
+    (served none refl refl))
 
 pub check-spec : {M : Type 1} → statement M
 check-spec =
     tie.close
-    (tie.spec
-    shaped-requires
-    enum-known-a
-    enum-told
-    returns
-    check-shaped-requires
-    same-length
-    returns-2)
+    (tie.spec (λ c κs. search needs) (λ c. search needs) (λ c. search needs) (λ c. search needs) returns clear-front-requires (λ c. search needs) returns-2)

@@ -15,23 +15,11 @@ Inv-loop order pattern work at left right m join end c₀ c =
 abbrev μ-loop : tie.MeasureT-loop
 μ-loop order pattern work at left right m join end c₀ c = end - c
 
-add-join : tie.Need-add-join Inv-loop μ-loop
-add-join c = omega arith
-
-end-of-cuts-requires : tie.Need-end-of-cuts-requires Inv-loop μ-loop
-end-of-cuts-requires c κs = omega arith
-
-first-cut-requires : tie.Need-first-cut-requires Inv-loop μ-loop
-first-cut-requires c κs = tt
-
 loop-holds : tie.Need-loop-holds Inv-loop μ-loop
 loop-holds c =
     let a = c .before .before .before .before .args in
     let first = c .first-cut .result in
     (omega arith, refl, refl, c .before .end-of-cuts .ensures, c .first-cut .ensures, missed-none (a .order) (a .pattern .now) (a .work .now) (a .at + a .left) first)
-
-sub-is-cut : tie.Need-sub-is-cut Inv-loop μ-loop
-sub-is-cut c = omega arith
 
 is-cut-requires : tie.Need-is-cut-requires Inv-loop μ-loop
 is-cut-requires c κs =
@@ -47,12 +35,6 @@ returns c =
     let a = s .args in
     join-hit (a .order) (a .pattern .now) (a .work .now) (a .at) (a .left) (a .right) (omega arith) (a .at + a .left) (at .loop .c) refl
     (omega arith) (omega arith) (omega arith) (omega arith) (k .is-cut .ensures .0 (c .if1 .taken))
-
-add-c : tie.Need-add-c Inv-loop μ-loop
-add-c c = omega arith
-
-loop-less : tie.Need-loop-less Inv-loop μ-loop
-loop-less c = omega arith
 
 loop-again : tie.Need-loop-again Inv-loop μ-loop
 loop-again c =
@@ -79,17 +61,5 @@ returns-2 c =
 pub cut-at-join-spec : {M : Type 1} → statement M
 cut-at-join-spec =
     tie.close
-    (tie.spec
-    Inv-loop
-    μ-loop
-    add-join
-    end-of-cuts-requires
-    first-cut-requires
-    loop-holds
-    sub-is-cut
-    is-cut-requires
-    returns
-    add-c
-    loop-less
-    loop-again
-    returns-2)
+    (tie.spec Inv-loop μ-loop (λ c. omega arith) (λ c κs. omega arith) (λ c κs. tt) loop-holds (λ c. omega arith) is-cut-requires returns
+    (λ c. omega arith) (λ c. omega arith) loop-again returns-2)

@@ -11,37 +11,10 @@ use borrow.Author.Needs.{needs}
 use Rattle.joins.proofs.is_cut.Statement.{statement}
 use Rattle.joins.proofs.is_cut.Tie as tie
 
-add-if1 : tie.Need-add-if1
-add-if1 c = search needs
-
-mul-if1 : tie.Need-mul-if1
-mul-if1 c = search needs
-
-shared-slice-read-if1 : tie.Need-shared-slice-read-if1
-shared-slice-read-if1 c = search needs
-
 returns : tie.Need-returns
 returns c =
     let s = c .before .before .before .before in
     (λ e. absurd (false≢true e), λ e m q. s .pre .0 (s .args .c) m (c .if1 .taken))
-
-add-end : tie.Need-add-end
-add-end c = search needs
-
-mul-matches : tie.Need-mul-matches
-mul-matches c = search needs
-
-sub-matches : tie.Need-sub-matches
-sub-matches c = search needs
-
-part-matches-start : tie.Need-part-matches-start
-part-matches-start c = search needs
-
-part-matches-end : tie.Need-part-matches-end
-part-matches-end c = search needs
-
-matches-requires : tie.Need-matches-requires
-matches-requires c κs = search needs
 
 returns-2 : tie.Need-returns-2
 returns-2 c =
@@ -56,15 +29,5 @@ returns-2 c =
 pub is-cut-spec : {M : Type 1} → statement M
 is-cut-spec =
     tie.close
-    (tie.spec
-    add-if1
-    mul-if1
-    shared-slice-read-if1
-    returns
-    add-end
-    mul-matches
-    sub-matches
-    part-matches-start
-    part-matches-end
-    matches-requires
-    returns-2)
+    (tie.spec (λ c. search needs) (λ c. search needs) (λ c. search needs) returns (λ c. search needs) (λ c. search needs) (λ c. search needs)
+    (λ c. search needs) (λ c. search needs) (λ c κs. search needs) returns-2)

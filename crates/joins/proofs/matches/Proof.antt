@@ -16,21 +16,6 @@ Inv-loop order pattern ranks i₀ i = (i ≤ length pattern) × (same (map (rank
 abbrev μ-loop : tie.MeasureT-loop
 μ-loop order pattern ranks i₀ i = length pattern - i
 
-loop-holds : tie.Need-loop-holds Inv-loop μ-loop
-loop-holds c = (omega arith, refl)
-
-shared-slice-read-rank-of : tie.Need-shared-slice-read-rank-of Inv-loop μ-loop
-shared-slice-read-rank-of c = omega arith
-
-rank-of-requires : tie.Need-rank-of-requires Inv-loop μ-loop
-rank-of-requires c κs = tt
-
-mul-if1 : tie.Need-mul-if1 Inv-loop μ-loop
-mul-if1 c = omega arith
-
-shared-slice-read-if1 : tie.Need-shared-slice-read-if1 Inv-loop μ-loop
-shared-slice-read-if1 c = omega arith
-
 returns : tie.Need-returns Inv-loop μ-loop
 returns c =
     let k = c .before .before in
@@ -38,12 +23,6 @@ returns c =
     let s = at .before .before .before in
     let a = s .args in
     sym (at .loop .inv .1 ∙ rank-differs (a .order) (a .pattern .now) (a .ranks .now) (at .loop .i) (omega arith) (s .pre) (λ q. c .if1 .taken (k .rank-of .ensures ∙ q)))
-
-add-i : tie.Need-add-i Inv-loop μ-loop
-add-i c = omega arith
-
-loop-less : tie.Need-loop-less Inv-loop μ-loop
-loop-less c = omega arith
 
 loop-again : tie.Need-loop-again Inv-loop μ-loop
 loop-again c =
@@ -63,16 +42,5 @@ returns-2 c =
 pub matches-spec : {M : Type 1} → statement M
 matches-spec =
     tie.close
-    (tie.spec
-    Inv-loop
-    μ-loop
-    loop-holds
-    shared-slice-read-rank-of
-    rank-of-requires
-    mul-if1
-    shared-slice-read-if1
-    returns
-    add-i
-    loop-less
-    loop-again
-    returns-2)
+    (tie.spec Inv-loop μ-loop (λ c. (omega arith, refl)) (λ c. omega arith) (λ c κs. tt) (λ c. omega arith) (λ c. omega arith) returns (λ c. omega arith)
+    (λ c. omega arith) loop-again returns-2)

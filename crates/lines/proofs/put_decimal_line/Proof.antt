@@ -5,9 +5,6 @@ use Rattle.lines.proofs.Lines.{count-range, line-stored}
 use Rattle.lines.proofs.put_decimal_line.Statement.{statement}
 use Rattle.lines.proofs.put_decimal_line.Tie as tie
 
-digit-count-requires : tie.Need-digit-count-requires
-digit-count-requires c κs = search needs
-
 put-digits-requires : tie.Need-put-digits-requires
 put-digits-requires c κs =
     let d = c .before in
@@ -24,9 +21,6 @@ add-result c =
     let d = c .before .before .before .before in
     omega (arith, d .digit-count .ensures, count-range (d .before .before .args .number))
 
-same-length : tie.Need-same-length
-same-length c = search needs
-
 returns : tie.Need-returns
 returns c =
     let p = c .before .before in
@@ -35,12 +29,4 @@ returns c =
     line-stored (s .args .number) (d .digit-count .result) (s .args .out .now) (p .put-digits .last .1 .1 .0) (s .pre .1) (d .digit-count .ensures) (p .put-digits .ensures)
 
 pub put-decimal-line-spec : {M : Type 1} → statement M
-put-decimal-line-spec =
-    tie.close
-    (tie.spec
-    digit-count-requires
-    put-digits-requires
-    slice-write-out
-    add-result
-    same-length
-    returns)
+put-decimal-line-spec = tie.close (tie.spec (λ c κs. search needs) put-digits-requires slice-write-out add-result (λ c. search needs) returns)

@@ -24,15 +24,6 @@ loop-holds c =
     let none = lines-none (a .numbers .now) (a .out .now) in
     (omega arith, refl, none .0, none .1)
 
-mul-wide : tie.Need-mul-wide Inv-loop μ-loop
-mul-wide c = omega arith
-
-shared-slice-read-wide : tie.Need-shared-slice-read-wide Inv-loop μ-loop
-shared-slice-read-wide c = omega arith
-
-wide-requires : tie.Need-wide-requires Inv-loop μ-loop
-wide-requires c κs = tt
-
 sub-put-decimal-line : tie.Need-sub-put-decimal-line Inv-loop μ-loop
 sub-put-decimal-line c =
     let at = c .before .before .before in
@@ -44,9 +35,6 @@ part-put-decimal-line-start c =
     let at = c .before .before .before in
     let a = at .before .before .before .args in
     omega (arith, front-most (a .numbers .now) (at .loop .i), at .loop .inv .2)
-
-part-put-decimal-line-end : tie.Need-part-put-decimal-line-end Inv-loop μ-loop
-part-put-decimal-line-end c = omega arith
 
 put-decimal-line-requires : tie.Need-put-decimal-line-requires Inv-loop μ-loop
 put-decimal-line-requires c κs =
@@ -62,12 +50,6 @@ add-n c =
     let at = l .before .before .before .before .before in
     let s = at .before .before .before in
     omega (arith, front-most (s .args .numbers .now) (at .loop .i), at .loop .inv .2, l .put-decimal-line .ensures .0, line-most (l .before .before .wide .result))
-
-add-i : tie.Need-add-i Inv-loop μ-loop
-add-i c = omega arith
-
-loop-less : tie.Need-loop-less Inv-loop μ-loop
-loop-less c = omega arith
 
 loop-again : tie.Need-loop-again Inv-loop μ-loop
 loop-again c =
@@ -91,20 +73,5 @@ returns c =
 pub put-decimal-lines-spec : {M : Type 1} → statement M
 put-decimal-lines-spec =
     tie.close
-    (tie.spec
-    Inv-loop
-    μ-loop
-    loop-holds
-    mul-wide
-    shared-slice-read-wide
-    wide-requires
-    sub-put-decimal-line
-    part-put-decimal-line-start
-    part-put-decimal-line-end
-    put-decimal-line-requires
-    add-n
-    add-i
-    loop-less
-    loop-again
-    same-length
-    returns)
+    (tie.spec Inv-loop μ-loop loop-holds (λ c. omega arith) (λ c. omega arith) (λ c κs. tt) sub-put-decimal-line part-put-decimal-line-start
+    (λ c. omega arith) put-decimal-line-requires add-n (λ c. omega arith) (λ c. omega arith) loop-again same-length returns)

@@ -5,30 +5,12 @@ use Rattle.lines.proofs.Lines.{line-most, named-stored}
 use Rattle.lines.proofs.put_named.Statement.{statement}
 use Rattle.lines.proofs.put_named.Tie as tie
 
-put-bytes-requires : tie.Need-put-bytes-requires
-put-bytes-requires c κs = search needs
-
-sub-put-decimal-line : tie.Need-sub-put-decimal-line
-sub-put-decimal-line c = search needs
-
-part-put-decimal-line-start : tie.Need-part-put-decimal-line-start
-part-put-decimal-line-start c = search needs
-
-part-put-decimal-line-end : tie.Need-part-put-decimal-line-end
-part-put-decimal-line-end c = search needs
-
-put-decimal-line-requires : tie.Need-put-decimal-line-requires
-put-decimal-line-requires c κs = search needs
-
 add-result : tie.Need-add-result
 add-result c =
     let l = c .before .before in
     let b = l .before .before .before .before in
     let s = b .before .before .before .before in
     omega (arith, l .put-decimal-line .ensures .0, b .put-bytes .ensures .0, line-most (s .args .number))
-
-same-length : tie.Need-same-length
-same-length c = search needs
 
 returns : tie.Need-returns
 returns c =
@@ -40,12 +22,5 @@ returns c =
 pub put-named-spec : {M : Type 1} → statement M
 put-named-spec =
     tie.close
-    (tie.spec
-    put-bytes-requires
-    sub-put-decimal-line
-    part-put-decimal-line-start
-    part-put-decimal-line-end
-    put-decimal-line-requires
-    add-result
-    same-length
+    (tie.spec (λ c κs. search needs) (λ c. search needs) (λ c. search needs) (λ c. search needs) (λ c κs. search needs) add-result (λ c. search needs)
     returns)

@@ -12,24 +12,12 @@ use Rattle.lines.specs.Lines.{refusal, refusalNumber}
 use Rattle.lines.proofs.put_refusal.Statement.{statement}
 use Rattle.lines.proofs.put_refusal.Tie as tie
 
-enum-known-answer : tie.Need-enum-known-answer
-enum-known-answer c = search needs
-
-enum-told : tie.Need-enum-told
-enum-told c = search needs
-
 returns : tie.Need-returns
 unfolding refusal
 returns c =
     let a = c .before .before .before .args in
     let none = ap refusal (c .enum-told .given .1) in
     (sym (ap length none), sym (ap (λ (l : List ℕ). placed l (a .out .now)) none ∙ placed-none (a .out .now)))
-
-slice-aggregate-put-named : tie.Need-slice-aggregate-put-named
-slice-aggregate-put-named c = search needs
-
-wide-requires : tie.Need-wide-requires
-wide-requires c κs = search needs
 
 put-named-requires : tie.Need-put-named-requires
 unfolding refusalNumber
@@ -38,9 +26,6 @@ put-named-requires c κs =
     let k = w .before .before in
     let s = k .before .before .before .before in
     (omega (arith, w .wide .ensures, ap refusalNumber (k .before .answer .given .1), s .pre .0), omega arith)
-
-same-length : tie.Need-same-length
-same-length c = search needs
 
 returns-2 : tie.Need-returns-2
 unfolding refusal
@@ -55,12 +40,5 @@ returns-2 c =
 pub put-refusal-spec : {M : Type 1} → statement M
 put-refusal-spec =
     tie.close
-    (tie.spec
-    enum-known-answer
-    enum-told
-    returns
-    slice-aggregate-put-named
-    wide-requires
-    put-named-requires
-    same-length
+    (tie.spec (λ c. search needs) (λ c. search needs) returns (λ c. search needs) (λ c κs. search needs) put-named-requires (λ c. search needs)
     returns-2)

@@ -4,17 +4,5 @@ use borrow.Author.Needs.{needs}
 use Rattle.listing.proofs.behind_mark.Statement.{statement}
 use Rattle.listing.proofs.behind_mark.Tie as tie
 
-returns : tie.Need-returns
-returns c = search needs
-
-sub-result : tie.Need-sub-result
-sub-result c = search needs
-
-cast-result : tie.Need-cast-result
-cast-result c = search needs
-
-returns-2 : tie.Need-returns-2
-returns-2 c = omega arith
-
 pub behind-mark-spec : {M : Type 1} → statement M
-behind-mark-spec = tie.close (tie.spec returns sub-result cast-result returns-2)
+behind-mark-spec = tie.close (tie.spec (λ c. search needs) (λ c. search needs) (λ c. search needs) (λ c. omega arith))

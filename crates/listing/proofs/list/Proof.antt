@@ -1,7 +1,7 @@
 -- `list` lists the root, whose string is the marked text.
 use native.Mathlib.Omega.{arith}
 use lib.ListN.{length}
-use Rattle.listing.proofs.Lending.{root-some, root-lists, root-done}
+use Rattle.listing.proofs.Listing.{root-some, root-lists, root-done}
 use borrow.Author.Needs.{needs}
 use Rattle.listing.proofs.list.Statement.{statement}
 use Rattle.listing.proofs.list.Tie as tie
@@ -16,9 +16,6 @@ list-rule-requires c κs =
     let s = c .before .before .before in
     root-lists (s .pre .0) (s .args .rules) (s .pre .1) (length (s .args .result .now)) (s .pre .2)
 
-same-length : tie.Need-same-length
-same-length c = search needs
-
 returns : tie.Need-returns
 returns c h e =
     let f = c .before .before in
@@ -26,4 +23,4 @@ returns c h e =
     root-done h (a .rules) e (f .list-rule .result) (a .result .now) (f .list-rule .last .1 .1 .1 .0) (f .list-rule .ensures)
 
 pub list-spec : {M : Type 1} → statement M
-list-spec = tie.close (tie.spec sub-list-rule list-rule-requires same-length returns)
+list-spec = tie.close (tie.spec sub-list-rule list-rule-requires (λ c. search needs) returns)

@@ -14,15 +14,6 @@ returns c =
     let a = c .before .before .args in
     (omega arith, drive-cut-none (a .join) (a .c) (a .result .now) (c .if1 .taken))
 
-sub-list-one : tie.Need-sub-list-one
-sub-list-one c = search needs
-
-list-one-requires : tie.Need-list-one-requires
-list-one-requires c κs = search needs
-
-same-length : tie.Need-same-length
-same-length c = search needs
-
 returns-2 : tie.Need-returns-2
 returns-2 c =
     let o = c .before .before in
@@ -33,4 +24,4 @@ returns-2 c =
     )
 
 pub list-cut-spec : {M : Type 1} → statement M
-list-cut-spec = tie.close (tie.spec returns sub-list-one list-one-requires same-length returns-2)
+list-cut-spec = tie.close (tie.spec returns (λ c. search needs) (λ c κs. search needs) (λ c. search needs) returns-2)

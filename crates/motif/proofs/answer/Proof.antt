@@ -10,30 +10,12 @@ use Rattle.motif.proofs.Printing.{drive-refused, drive-done}
 use Rattle.motif.proofs.answer.Statement.{statement}
 use Rattle.motif.proofs.answer.Tie as tie
 
-build-drive-requires : tie.Need-build-drive-requires
-build-drive-requires c κs = search needs
-
-enum-known-a : tie.Need-enum-known-a
-enum-known-a c = search needs
-
-enum-told : tie.Need-enum-told
-enum-told c = search needs
-
 put-refusal-requires : tie.Need-put-refusal-requires
 put-refusal-requires c κs =
     let told = c .before in
     let b = told .before .before .before .before .before .before in
     let s = b .before .before .before .before .before .before .before .before in
-    (drive-refused (s .args .input .now) (b .build-drive .result) (b .build-drive .ensures .0) _ _ (told .enum-told .given .1) .0, omega arith)
-
-same-length : tie.Need-same-length
-same-length c = search needs
-
-same-length-2 : tie.Need-same-length-2
-same-length-2 c = search needs
-
-same-length-3 : tie.Need-same-length-3
-same-length-3 c = search needs
+    (drive-refused (s .args .input .now) (b .build-drive .result) (s .args .table .now) (b .build-drive .last .1 .1 .0) (b .build-drive .ensures) _ _ (told .enum-told .given .1) .0, omega arith)
 
 returns : tie.Need-returns
 returns c =
@@ -41,41 +23,23 @@ returns c =
     let told = r .before .before in
     let b = told .before .before .before .before .before .before in
     let s = b .before .before .before .before .before .before .before .before in
-    let e = drive-refused (s .args .input .now) (b .build-drive .result) (b .build-drive .ensures .0) _ _ (told .enum-told .given .1) .1 in
+    let e = drive-refused (s .args .input .now) (b .build-drive .result) (s .args .table .now) (b .build-drive .last .1 .1 .0) (b .build-drive .ensures) _ _ (told .enum-told .given .1) .1 in
     (r .put-refusal .ensures .0 ∙ ap length e, r .put-refusal .ensures .1 ∙ ap (λ (x : List ℕ). placed x (s .args .out .now)) e)
-
-sub-answer-built : tie.Need-sub-answer-built
-sub-answer-built c = search needs
-
-part-answer-built-start : tie.Need-part-answer-built-start
-part-answer-built-start c = search needs
 
 part-answer-built-end : tie.Need-part-answer-built-end
 part-answer-built-end c =
     let a = c .before .before in
     let b = a .before .before .before .before .before .before in
     let s = b .before .before .before .before .before .before .before .before in
-    drive-done (s .args .input .now) (b .build-drive .result) (b .build-drive .ensures .0) (s .args .table .now) (b .build-drive .last .1 .1 .0) _ (b .build-drive .ensures .1) (a .a .given .1) .0
+    drive-done (s .args .input .now) (b .build-drive .result) (s .args .table .now) (b .build-drive .last .1 .1 .0) (b .build-drive .ensures) _ (a .a .given .1) .0
 
 answer-built-requires : tie.Need-answer-built-requires
 answer-built-requires c κs =
     let a = c .before .before .before .before .before .before in
     let b = a .before .before .before .before .before .before in
     let s = b .before .before .before .before .before .before .before .before in
-    let built = drive-done (s .args .input .now) (b .build-drive .result) (b .build-drive .ensures .0) (s .args .table .now) (b .build-drive .last .1 .1 .0) _ (b .build-drive .ensures .1) (a .a .given .1) in
+    let built = drive-done (s .args .input .now) (b .build-drive .result) (s .args .table .now) (b .build-drive .last .1 .1 .0) (b .build-drive .ensures) _ (a .a .given .1) in
     (built .1, omega (arith, b .build-drive .kept .1 .0), s .pre .2, s .pre .3)
-
-same-length-4 : tie.Need-same-length-4
-same-length-4 c = search needs
-
-same-length-5 : tie.Need-same-length-5
-same-length-5 c = search needs
-
-same-length-6 : tie.Need-same-length-6
-same-length-6 c = search needs
-
-same-length-7 : tie.Need-same-length-7
-same-length-7 c = search needs
 
 returns-2 : tie.Need-returns-2
 returns-2 c =
@@ -83,27 +47,12 @@ returns-2 c =
     let a = r .before .before .before .before .before .before .before in
     let b = a .before .before .before .before .before .before in
     let s = b .before .before .before .before .before .before .before .before in
-    let e = drive-done (s .args .input .now) (b .build-drive .result) (b .build-drive .ensures .0) (s .args .table .now) (b .build-drive .last .1 .1 .0) _ (b .build-drive .ensures .1) (a .a .given .1) .2 in
+    let e = drive-done (s .args .input .now) (b .build-drive .result) (s .args .table .now) (b .build-drive .last .1 .1 .0) (b .build-drive .ensures) _ (a .a .given .1) .2 in
     (r .answer-built .ensures .0 ∙ ap length e, r .answer-built .ensures .1 ∙ ap (λ (x : List ℕ). placed x (s .args .out .now)) e)
 
 pub answer-spec : {M : Type 1} → statement M
 answer-spec =
     tie.close
-    (tie.spec
-    build-drive-requires
-    enum-known-a
-    enum-told
-    put-refusal-requires
-    same-length
-    same-length-2
-    same-length-3
-    returns
-    sub-answer-built
-    part-answer-built-start
-    part-answer-built-end
-    answer-built-requires
-    same-length-4
-    same-length-5
-    same-length-6
-    same-length-7
-    returns-2)
+    (tie.spec (λ c κs. search needs) (λ c. search needs) (λ c. search needs) put-refusal-requires (λ c. search needs) (λ c. search needs)
+    (λ c. search needs) returns (λ c. search needs) (λ c. search needs) part-answer-built-end answer-built-requires (λ c. search needs)
+    (λ c. search needs) (λ c. search needs) (λ c. search needs) returns-2)

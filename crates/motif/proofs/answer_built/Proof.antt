@@ -5,7 +5,7 @@ use Prim.Native.Nat.{ℕ}
 use native.Mathlib.Omega.{arith}
 use lib.ListN.{length}
 use borrow.Author.Needs.{needs}
-use Rattle.definitions.specs.declared.Order.the-variants.{Unsigned}
+use Rattle.definitions.specs.Services.{sampleOrder}
 use Rattle.definitions.specs.Words.{placed}
 use Rattle.definitions.specs.Programs.{motifOf, driveOf, named, rulesName, foundLines}
 use Rattle.definitions.specs.Table.{ruleCount}
@@ -18,30 +18,12 @@ use Rattle.motif.proofs.Printing.{motif-refused, motif-done}
 use Rattle.motif.proofs.answer_built.Statement.{statement}
 use Rattle.motif.proofs.answer_built.Tie as tie
 
-locate-motif-requires : tie.Need-locate-motif-requires
-locate-motif-requires c κs = search needs
-
-enum-known-a : tie.Need-enum-known-a
-enum-known-a c = search needs
-
-enum-told : tie.Need-enum-told
-enum-told c = search needs
-
 put-refusal-requires : tie.Need-put-refusal-requires
 put-refusal-requires c κs =
     let told = c .before in
     let l = told .before .before .before .before .before .before in
     let s = l .before .before .before .before .before .before .before .before in
-    (motif-refused (s .args .input .now) (l .locate-motif .result) (l .locate-motif .ensures .0) _ _ (told .enum-told .given .1) .0, omega arith)
-
-same-length : tie.Need-same-length
-same-length c = search needs
-
-same-length-2 : tie.Need-same-length-2
-same-length-2 c = search needs
-
-same-length-3 : tie.Need-same-length-3
-same-length-3 c = search needs
+    (motif-refused (s .args .input .now) (l .locate-motif .result) (s .args .positions .now) (l .locate-motif .last .1 .1 .1 .0) (l .locate-motif .ensures) _ _ (told .enum-told .given .1) .0, omega arith)
 
 returns : tie.Need-returns
 returns c =
@@ -49,21 +31,15 @@ returns c =
     let told = r .before .before in
     let l = told .before .before .before .before .before .before in
     let s = l .before .before .before .before .before .before .before .before in
-    let e = motif-refused (s .args .input .now) (l .locate-motif .result) (l .locate-motif .ensures .0) _ _ (told .enum-told .given .1) .1 in
+    let e = motif-refused (s .args .input .now) (l .locate-motif .result) (s .args .positions .now) (l .locate-motif .last .1 .1 .1 .0) (l .locate-motif .ensures) _ _ (told .enum-told .given .1) .1 in
     (r .put-refusal .ensures .0 ∙ ap length e, r .put-refusal .ensures .1 ∙ ap (λ (x : List ℕ). placed x (s .args .out .now)) e)
-
-sub-rules-and-found : tie.Need-sub-rules-and-found
-sub-rules-and-found c = search needs
-
-part-rules-and-found-start : tie.Need-part-rules-and-found-start
-part-rules-and-found-start c = search needs
 
 part-rules-and-found-end : tie.Need-part-rules-and-found-end
 part-rules-and-found-end c =
     let a = c .before .before in
     let l = a .before .before .before .before .before .before in
     let s = l .before .before .before .before .before .before .before .before in
-    motif-done (s .args .input .now) (l .locate-motif .result) (l .locate-motif .ensures .0) (s .args .positions .now) (l .locate-motif .last .1 .1 .1 .0) _ (l .locate-motif .ensures .1) (a .a .given .1) .0
+    motif-done (s .args .input .now) (l .locate-motif .result) (s .args .positions .now) (l .locate-motif .last .1 .1 .1 .0) (l .locate-motif .ensures) _ (a .a .given .1) .0
 
 rules-and-found-requires : tie.Need-rules-and-found-requires
 rules-and-found-requires c κs =
@@ -73,23 +49,14 @@ rules-and-found-requires c κs =
     let s = k .before in
     let input = s .args .input .now in
     let bytes = drive-bytes input (λ i h. omega (arith, k .shared-slice-known .given i)) in
-    let (fits, finds, output) = motif-done input (l .locate-motif .result) (l .locate-motif .ensures .0) (s .args .positions .now) (l .locate-motif .last .1 .1 .1 .0) _ (l .locate-motif .ensures .1) (a .a .given .1) in
+    let (fits, finds, output) = motif-done input (l .locate-motif .result) (s .args .positions .now) (l .locate-motif .last .1 .1 .1 .0) (l .locate-motif .ensures) _ (a .a .given .1) in
     let most = occurrences-most (motifOf input) (driveOf input) in
     let short = s .pre .0 .short in (
-      omega (arith, ap length (s .pre .0 .table), table-size Unsigned (driveOf input) 0 (stored (driveOf input) (s .pre .0 .short) bytes)),
+      omega (arith, ap length (s .pre .0 .table), table-size sampleOrder (driveOf input) 0 (stored (driveOf input) (s .pre .0 .short) bytes)),
       subst Small (sym finds) (finds-small (motifOf input) (driveOf input) (s .pre .0 .short)),
       omega (arith, ap length finds, most),
       omega (arith, ap length finds, most),
     )
-
-same-length-4 : tie.Need-same-length-4
-same-length-4 c = search needs
-
-same-length-5 : tie.Need-same-length-5
-same-length-5 c = search needs
-
-same-length-6 : tie.Need-same-length-6
-same-length-6 c = search needs
 
 returns-2 : tie.Need-returns-2
 returns-2 c =
@@ -97,27 +64,13 @@ returns-2 c =
     let a = f .before .before .before .before .before in
     let l = a .before .before .before .before .before .before in
     let s = l .before .before .before .before .before .before .before .before in
-    let (fits, finds, output) = motif-done (s .args .input .now) (l .locate-motif .result) (l .locate-motif .ensures .0) (s .args .positions .now) (l .locate-motif .last .1 .1 .1 .0) _ (l .locate-motif .ensures .1) (a .a .given .1) in
+    let (fits, finds, output) = motif-done (s .args .input .now) (l .locate-motif .result) (s .args .positions .now) (l .locate-motif .last .1 .1 .1 .0) (l .locate-motif .ensures) _ (a .a .given .1) in
     let e = ap₂ {C = List ℕ} (λ t p. named rulesName (ruleCount t) ++ foundLines p) (s .pre .0 .table) finds ∙ output in
     (f .rules-and-found .ensures .0 ∙ ap length e, f .rules-and-found .ensures .1 ∙ ap (λ (x : List ℕ). placed x (s .args .out .now)) e)
 
 pub answer-built-spec : {M : Type 1} → statement M
 answer-built-spec =
     tie.close
-    (tie.spec
-    locate-motif-requires
-    enum-known-a
-    enum-told
-    put-refusal-requires
-    same-length
-    same-length-2
-    same-length-3
-    returns
-    sub-rules-and-found
-    part-rules-and-found-start
-    part-rules-and-found-end
-    rules-and-found-requires
-    same-length-4
-    same-length-5
-    same-length-6
-    returns-2)
+    (tie.spec (λ c κs. search needs) (λ c. search needs) (λ c. search needs) put-refusal-requires (λ c. search needs) (λ c. search needs)
+    (λ c. search needs) returns (λ c. search needs) (λ c. search needs) part-rules-and-found-end rules-and-found-requires (λ c. search needs)
+    (λ c. search needs) (λ c. search needs) returns-2)

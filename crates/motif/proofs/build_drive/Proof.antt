@@ -5,7 +5,7 @@ use native.Mathlib.Omega.{arith}
 use lib.ListN.{length, take, drop, length-drop}
 use lib.Seq.{take-all}
 use borrow.Author.Needs.{needs}
-use Rattle.definitions.specs.declared.Order.the-variants.{Unsigned}
+use Rattle.definitions.specs.Services.{sampleOrder}
 use Rattle.motif.proofs.Splitting.{drive-bytes}
 use Rattle.motif.proofs.Stepping.{drive-long, drive-built}
 use Rattle.motif.proofs.build_drive.Statement.{statement}
@@ -14,28 +14,7 @@ use Rattle.motif.proofs.build_drive.Tie as tie
 returns : tie.Need-returns
 returns c =
     let a = c .before .before .before .before .args in
-    drive-long Unsigned (a .input .now) (a .table .now) (c .if1 .taken)
-
-drive-start-requires : tie.Need-drive-start-requires
-drive-start-requires c κs = search needs
-
-sub-build : tie.Need-sub-build
-sub-build c = search needs
-
-part-build-start : tie.Need-part-build-start
-part-build-start c = search needs
-
-part-build-end : tie.Need-part-build-end
-part-build-end c = search needs
-
-build-requires : tie.Need-build-requires
-build-requires c κs = search needs
-
-same-length : tie.Need-same-length
-same-length c = search needs
-
-same-length-2 : tie.Need-same-length-2
-same-length-2 c = search needs
+    drive-long sampleOrder (a .input .now) (a .table .now) (c .if1 .taken)
 
 returns-2 : tie.Need-returns-2
 returns-2 c =
@@ -47,18 +26,10 @@ returns-2 c =
     let from = d .drive-start .result in
     let text = take-all (length input - from) (drop from input) (omega (arith, length-drop from input)) ∙ d .drive-start .ensures .1 in
     let bytes = drive-bytes input (λ i h. omega (arith, k .shared-slice-known .given i)) in
-    drive-built Unsigned input (s .args .table .now) (length (s .args .work .now)) (s .pre .0) (s .pre .1) (d .before .if1 .left) bytes (take (length input - from) (drop from input)) (b .build .last .1 .1 .1 .0) _ text (b .build .ensures .0) (b .build .ensures .1 .0)
+    drive-built sampleOrder input (s .args .table .now) (s .args .work .now) (s .pre .0) (s .pre .1) (d .before .if1 .left) bytes (take (length input - from) (drop from input)) (b .build .last .1 .1 .0) (b .build .last .1 .1 .1 .0) (b .build .result) text (b .build .ensures)
 
 pub build-drive-spec : {M : Type 1} → statement M
 build-drive-spec =
     tie.close
-    (tie.spec
-    returns
-    drive-start-requires
-    sub-build
-    part-build-start
-    part-build-end
-    build-requires
-    same-length
-    same-length-2
-    returns-2)
+    (tie.spec returns (λ c κs. search needs) (λ c. search needs) (λ c. search needs) (λ c. search needs) (λ c κs. search needs) (λ c. search needs)
+    (λ c. search needs) returns-2)

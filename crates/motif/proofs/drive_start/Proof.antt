@@ -4,12 +4,6 @@ use Rattle.motif.proofs.Splitting.{behind-ten, at-end}
 use Rattle.motif.proofs.drive_start.Statement.{statement}
 use Rattle.motif.proofs.drive_start.Tie as tie
 
-motif-length-requires : tie.Need-motif-length-requires
-motif-length-requires c κs = search needs
-
-add-result : tie.Need-add-result
-add-result c = search needs
-
 returns : tie.Need-returns
 returns c =
     let m = c .before in
@@ -21,4 +15,4 @@ returns-2 c =
     at-end (m .before .before .args .input .now) (m .motif-length .result) (m .motif-length .ensures) (c .if1 .left)
 
 pub drive-start-spec : {M : Type 1} → statement M
-drive-start-spec = tie.close (tie.spec motif-length-requires add-result returns returns-2)
+drive-start-spec = tie.close (tie.spec (λ c κs. search needs) (λ c. search needs) returns returns-2)

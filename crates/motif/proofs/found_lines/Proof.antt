@@ -7,12 +7,6 @@ use Rattle.lines.proofs.Lines.{named-most, lines-most, both-stored}
 use Rattle.motif.proofs.found_lines.Statement.{statement}
 use Rattle.motif.proofs.found_lines.Tie as tie
 
-slice-aggregate-put-named : tie.Need-slice-aggregate-put-named
-slice-aggregate-put-named c = search needs
-
-put-named-requires : tie.Need-put-named-requires
-put-named-requires c κs = search needs
-
 sub-put-decimal-lines : tie.Need-sub-put-decimal-lines
 sub-put-decimal-lines c =
     let p = c .before .before in
@@ -24,9 +18,6 @@ part-put-decimal-lines-start c =
     let p = c .before .before in
     let s = p .before .before .before .before .before in
     omega (arith, p .put-named .ensures .0, p .put-named .kept .1 .1 .0, named-most foundName (length (s .args .positions .now)))
-
-part-put-decimal-lines-end : tie.Need-part-put-decimal-lines-end
-part-put-decimal-lines-end c = search needs
 
 put-decimal-lines-requires : tie.Need-put-decimal-lines-requires
 put-decimal-lines-requires c κs =
@@ -41,9 +32,6 @@ add-result c =
     let s = p .before .before .before .before .before in
     omega (arith, p .put-named .ensures .0, l .put-decimal-lines .ensures .0, named-most foundName (length (s .args .positions .now)), lines-most (s .args .positions .now))
 
-same-length : tie.Need-same-length
-same-length c = search needs
-
 returns : tie.Need-returns
 unfolding foundLines
 returns c =
@@ -56,13 +44,5 @@ returns c =
 pub found-lines-spec : {M : Type 1} → statement M
 found-lines-spec =
     tie.close
-    (tie.spec
-    slice-aggregate-put-named
-    put-named-requires
-    sub-put-decimal-lines
-    part-put-decimal-lines-start
-    part-put-decimal-lines-end
-    put-decimal-lines-requires
-    add-result
-    same-length
-    returns)
+    (tie.spec (λ c. search needs) (λ c κs. search needs) sub-put-decimal-lines part-put-decimal-lines-start (λ c. search needs)
+    put-decimal-lines-requires add-result (λ c. search needs) returns)

@@ -1,38 +1,19 @@
 -- `locate_motif` locates the front of the input, before byte 10, in the drive.
 use Prim.Native.Nat.{_-_}
 use native.Mathlib.Omega.{arith}
-use lib.ListN.{length, take}
+use lib.ListN.{take}
 use borrow.Author.Needs.{needs}
-use Rattle.definitions.specs.declared.Order.the-variants.{Unsigned}
-use Rattle.definitions.specs.Services.{searchOutcome}
+use Rattle.definitions.specs.Services.{searchOutcome, sampleOrder}
 use Rattle.definitions.specs.Programs.{driveOf}
 use Rattle.motif.proofs.Splitting.{motif-taken, motif-fits, drive-bytes}
 use Rattle.motif.proofs.Stepping.{stored, motif-located}
 use Rattle.motif.proofs.locate_motif.Statement.{statement}
 use Rattle.motif.proofs.locate_motif.Tie as tie
 
-motif-length-requires : tie.Need-motif-length-requires
-motif-length-requires c κs = search needs
-
-sub-locate : tie.Need-sub-locate
-sub-locate c = search needs
-
-part-locate-start : tie.Need-part-locate-start
-part-locate-start c = search needs
-
 part-locate-end : tie.Need-part-locate-end
 part-locate-end c =
     let input = c .before .before .before .before .before .args .input .now in
     omega (arith, c .motif-length .ensures, motif-fits input)
-
-locate-requires : tie.Need-locate-requires
-locate-requires c κs = search needs
-
-same-length : tie.Need-same-length
-same-length c = search needs
-
-same-length-2 : tie.Need-same-length-2
-same-length-2 c = search needs
 
 returns : tie.Need-returns
 unfolding searchOutcome
@@ -45,17 +26,10 @@ returns c =
     let motif = motif-taken input (m .motif-length .result) (m .motif-length .ensures) in
     let bytes = drive-bytes input (λ i h. omega (arith, k .shared-slice-known .given i)) in
     let ok = stored (driveOf input) (s .pre .0 .short) bytes in
-    motif-located Unsigned input (s .args .positions .now) (length (s .args .work .now)) (s .pre .1) (s .pre .2) ok (s .args .table .now) (take (m .motif-length .result - 0) input) (l .locate .last .1 .1 .1 .0) _ (s .pre .0 .table) motif (l .locate .ensures .0) (l .locate .ensures .1 .0)
+    motif-located sampleOrder input (s .args .positions .now) (s .args .work .now) (s .pre .1) (s .pre .2) ok (s .args .table .now) (take (m .motif-length .result - 0) input) (l .locate .last .1 .1 .0) (l .locate .last .1 .1 .1 .0) _ (s .pre .0 .table) motif (l .locate .ensures)
 
 pub locate-motif-spec : {M : Type 1} → statement M
 locate-motif-spec =
     tie.close
-    (tie.spec
-    motif-length-requires
-    sub-locate
-    part-locate-start
-    part-locate-end
-    locate-requires
-    same-length
-    same-length-2
-    returns)
+    (tie.spec (λ c κs. search needs) (λ c. search needs) (λ c. search needs) part-locate-end (λ c κs. search needs) (λ c. search needs)
+    (λ c. search needs) returns)

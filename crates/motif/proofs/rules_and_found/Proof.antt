@@ -8,12 +8,6 @@ use Rattle.motif.proofs.Printing.{found-most}
 use Rattle.motif.proofs.rules_and_found.Statement.{statement}
 use Rattle.motif.proofs.rules_and_found.Tie as tie
 
-slice-aggregate-put-named : tie.Need-slice-aggregate-put-named
-slice-aggregate-put-named c = search needs
-
-put-named-requires : tie.Need-put-named-requires
-put-named-requires c κs = search needs
-
 sub-found-lines : tie.Need-sub-found-lines
 sub-found-lines c =
     let p = c .before .before in
@@ -25,9 +19,6 @@ part-found-lines-start c =
     let p = c .before .before in
     let s = p .before .before .before .before .before in
     omega (arith, p .put-named .ensures .0, p .put-named .kept .1 .1 .0, named-most rulesName (s .args .rules))
-
-part-found-lines-end : tie.Need-part-found-lines-end
-part-found-lines-end c = search needs
 
 found-lines-requires : tie.Need-found-lines-requires
 found-lines-requires c κs =
@@ -42,9 +33,6 @@ add-result c =
     let s = p .before .before .before .before .before in
     omega (arith, p .put-named .ensures .0, l .found-lines .ensures .0, named-most rulesName (s .args .rules), found-most (s .args .positions .now))
 
-same-length : tie.Need-same-length
-same-length c = search needs
-
 returns : tie.Need-returns
 returns c =
     let l = c .before .before in
@@ -56,13 +44,5 @@ returns c =
 pub rules-and-found-spec : {M : Type 1} → statement M
 rules-and-found-spec =
     tie.close
-    (tie.spec
-    slice-aggregate-put-named
-    put-named-requires
-    sub-found-lines
-    part-found-lines-start
-    part-found-lines-end
-    found-lines-requires
-    add-result
-    same-length
-    returns)
+    (tie.spec (λ c. search needs) (λ c κs. search needs) sub-found-lines part-found-lines-start (λ c. search needs) found-lines-requires add-result
+    (λ c. search needs) returns)

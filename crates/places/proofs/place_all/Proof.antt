@@ -3,22 +3,16 @@ use mathlib.Core.Path.{_≡_, refl, sym, _∙_, subst}
 use Prim.Native.Nat.{ℕ, _+_, _-_, _≤_}
 use native.Mathlib.Omega.{arith}
 use lib.ListN.{length}
-use Rattle.places.specs.Passes.{Source, rulesIn, Placing}
+use Rattle.places.specs.Passes.{Contents, rulesIn, Placing}
 use Rattle.places.proofs.place_all.Statement.{statement}
 use Rattle.places.proofs.place_all.Tie as tie
 
 abbrev Inv-loop : tie.InvT-loop
 Inv-loop work₀ rules r₀ work r =
-    (r ≤ rules) × (length work ≡ length work₀) × ((g : Source) → rules ≡ rulesIn g → Placing g rules work₀ → Placing g r work)
+    (r ≤ rules) × (length work ≡ length work₀) × ((g : Contents) → rules ≡ rulesIn g → Placing g rules work₀ → Placing g r work)
 
 abbrev μ-loop : tie.MeasureT-loop
 μ-loop work₀ rules r₀ work r = r
-
-loop-holds : tie.Need-loop-holds Inv-loop μ-loop
-loop-holds c = (omega arith, refl, λ g e k. k)
-
-sub-r : tie.Need-sub-r Inv-loop μ-loop
-sub-r c = omega arith
 
 place-halves-requires : tie.Need-place-halves-requires Inv-loop μ-loop
 place-halves-requires c κs =
@@ -30,9 +24,6 @@ place-halves-requires c κs =
       subst (λ (n : ℕ). Placing (s .pre .0) n (at .loop .work)) (sym back) (at .loop .inv .2 (s .pre .0) (s .pre .1) (s .pre .2)),
     )
 
-loop-less : tie.Need-loop-less Inv-loop μ-loop
-loop-less c = omega arith
-
 loop-again : tie.Need-loop-again Inv-loop μ-loop
 loop-again c =
     let e = c .before .before in
@@ -43,9 +34,6 @@ loop-again c =
       λ g q k. e .place-halves .ensures g (omega arith) (subst (λ (n : ℕ). Placing g n (at .loop .work)) (sym back) (at .loop .inv .2 g q k)),
     )
 
-same-length : tie.Need-same-length Inv-loop μ-loop
-same-length c = c .before .loop .inv .1
-
 returns : tie.Need-returns Inv-loop μ-loop
 returns c =
     let at = c .before in
@@ -55,13 +43,4 @@ returns c =
 pub place-all-spec : {M : Type 1} → statement M
 place-all-spec =
     tie.close
-    (tie.spec
-    Inv-loop
-    μ-loop
-    loop-holds
-    sub-r
-    place-halves-requires
-    loop-less
-    loop-again
-    same-length
-    returns)
+    (tie.spec Inv-loop μ-loop (λ c. (omega arith, refl, λ g e k. k)) (λ c. omega arith) place-halves-requires (λ c. omega arith) loop-again (λ c. c .before .loop .inv .1) returns)

@@ -12,14 +12,8 @@ one-less : (o : Order) (r : ℕ) → r - 1 ≡ byteOf o r
 unfolding byteOf
 one-less Unsigned r = refl
 
-sub-result : tie.Need-sub-result
-sub-result c = search needs
-
-cast-result : tie.Need-cast-result
-cast-result c = search needs
-
 returns : tie.Need-returns
 returns c = one-less (c .args .order) (c .args .rank)
 
 pub byte-of-spec : {M : Type 1} → statement M
-byte-of-spec = tie.close (tie.spec sub-result cast-result returns)
+byte-of-spec = tie.close (tie.spec (λ c. search needs) (λ c. search needs) returns)

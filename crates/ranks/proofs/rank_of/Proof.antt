@@ -13,11 +13,8 @@ one-more : (o : Order) (b : ℕ) → b + 1 ≡ rankOf o b
 unfolding rankOf
 one-more Unsigned b = add-one b
 
-add-result : tie.Need-add-result
-add-result c = search needs
-
 returns : tie.Need-returns
 returns c = one-more (c .args .order) (c .args .byte)
 
 pub rank-of-spec : {M : Type 1} → statement M
-rank-of-spec = tie.close (tie.spec add-result returns)
+rank-of-spec = tie.close (tie.spec (λ c. search needs) returns)

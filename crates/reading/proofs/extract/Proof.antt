@@ -1,72 +1,49 @@
--- `extract` ends in one of two ways: refused by the table's shape, or decided by what it spells, by the range and by the result slice.
-use mathlib.Core.Path.{refl, sym, _∙_}
-use lib.ListN.{length, take, drop}
+-- `extract` is refused where the table is not opened; else it is decided by delivering the part of the text that is loaded, and the work slice is cleared.
+use mathlib.Core.Path.{refl, _∙_}
+use native.Mathlib.Omega.{arith}
 use borrow.Author.Needs.{needs}
-use Rattle.definitions.specs.declared.Order.the-variants.{Unsigned}
-use Rattle.definitions.specs.Table.{textOf, ruleCount}
-use Rattle.definitions.specs.Services.{outcomeOf, tableChecks, extractService}
-use Rattle.checks.specs.Checks.{shapeChecks, extractChecks}
-use Rattle.checks.proofs.Serving.{refused-front, decided, done-all}
-use Rattle.shapes.proofs.Shaping.{shape-keeps, passed-shaped}
+use Rattle.definitions.specs.Services.{tableChecks, extractService}
+use Rattle.lists.specs.Serving.{answer-refuses, passed, worked}
+use Rattle.opening.proofs.Services.{ready, opened-cleared, opening-refused, opening-done}
 use Rattle.reading.proofs.extract.Statement.{statement}
 use Rattle.reading.proofs.extract.Tie as tie
 
-shaped-requires : tie.Need-shaped-requires
-shaped-requires c κs = search needs
-
-enum-told : tie.Need-enum-told
-enum-told c = search needs
-
-enum-told-2 : tie.Need-enum-told-2
-enum-told-2 c = search needs
-
 returns : tie.Need-returns
-unfolding extractService tableChecks outcomeOf
+unfolding extractService tableChecks
 returns c =
-    let h = c .before .before in
-    let a = h .before .before .before .before .args in
-    let t = a .table .now in
-    let n = length (a .work .now) in
-    let m = length (a .result .now) in
-    refused-front (extractService Unsigned t (a .start) (a .count) n m) (shapeChecks t n) (extractChecks Unsigned t (a .start) (a .count) m) refl outcomeOf (λ x y. refl) (a .work .now) (a .result .now) (shape-keeps t n) (h .shaped .result) (ruleCount t) _ _ (h .shaped .ensures) (c .enum-told2 .given .1)
+    let m = c .before .before .before .before in
+    opening-refused _ (m .admit .ensures) (c .enum-told2 .given .1) (answer-refuses (m .admit .result)) (λ d. refl)
 
-extract-shaped-requires : tie.Need-extract-shaped-requires
-extract-shaped-requires c κs =
-    let told = c .before .before in
-    let h = told .before .before in
-    let a = h .before .before .before .before .args in
-    let t = a .table .now in
-    let n = length (a .work .now) in
-    passed-shaped t n (done-all (shapeChecks t n) (ruleCount t) _ (sym (h .shaped .ensures) ∙ told .enum-told .given .1))
+part-deliver-part-end : tie.Need-part-deliver-part-end
+part-deliver-part-end c =
+    let k = c .before in
+    omega (arith, opening-done (k .before .before .before .before .admit .ensures) (k .enum-told .given .1) .1 .long)
 
-same-length : tie.Need-same-length
-same-length c = search needs
+deliver-part-requires : tie.Need-deliver-part-requires
+unfolding ready
+deliver-part-requires c κs =
+    let k = c .before .before .before in
+    let (p, x, e) = opening-done (k .before .before .before .before .admit .ensures) (k .enum-told .given .1) in
+    (ready x, refl)
 
-same-length-2 : tie.Need-same-length-2
-same-length-2 c = search needs
+clear-front-requires : tie.Need-clear-front-requires
+clear-front-requires c κs =
+    let k = c .before .before .before .before .before .before .before in
+    opening-done (k .before .before .before .before .admit .ensures) (k .enum-told .given .1) .1 .long
 
 returns-2 : tie.Need-returns-2
-unfolding extractService tableChecks outcomeOf
+unfolding extractService tableChecks ready
 returns-2 c =
-    let b = c .before .before .before .before in
-    let told = b .before .before .before in
-    let h = told .before .before in
-    let a = h .before .before .before .before .args in
-    let t = a .table .now in
-    let n = length (a .work .now) in
-    let m = length (a .result .now) in
-    let passed = done-all (shapeChecks t n) (ruleCount t) _ (sym (h .shaped .ensures) ∙ told .enum-told .given .1) in
-    decided (extractService Unsigned t (a .start) (a .count) n m) (shapeChecks t n) (extractChecks Unsigned t (a .start) (a .count) m) refl outcomeOf (λ x y. refl) (a .work .now) (a .result .now) passed (refl, (refl, (refl, refl))) (b .extract-shaped .result) (length (take (a .count) (drop (a .start) (textOf Unsigned t)))) (b .extract-shaped .last .1 .1 .1 .1 .1 .0) (b .extract-shaped .last .1 .1 .1 .1 .0) refl (b .extract-shaped .ensures .0) (b .extract-shaped .ensures .1 .0) (b .extract-shaped .ensures .1 .1)
+    let z = c .before .before in
+    let b = z .before .before .before .before in
+    let k = b .before .before .before .before in
+    let m = k .before .before .before .before in
+    let a = m .before .before .before .before .before .args in
+    let (p, x, e) = opening-done (m .admit .ensures) (k .enum-told .given .1) in
+    passed p (worked (a .work .now) (z .clear-front .last .0) (refl, (refl, refl)) (z .clear-front .ensures ∙ opened-cleared x) (b .deliver-part .ensures (ready x) refl))
 
 pub extract-spec : {M : Type 1} → statement M
 extract-spec =
     tie.close
-    (tie.spec
-    shaped-requires
-    enum-told
-    enum-told-2
-    returns
-    extract-shaped-requires
-    same-length
-    same-length-2
-    returns-2)
+    (tie.spec (λ c κs. search needs) (λ c. search needs) (λ c. search needs) (λ c. search needs) returns (λ c. search needs) (λ c. search needs)
+    part-deliver-part-end deliver-part-requires clear-front-requires (λ c. search needs) (λ c. search needs) returns-2)

@@ -1,96 +1,52 @@
--- `read` ends in one of two ways: refused by the table's shape, or decided by what it spells and by the result slice.
-use mathlib.Core.Path.{refl, sym, _∙_, ap}
-use Prim.Native.Nat.{ℕ}
-use lib.ListN.{length}
+-- `read` is refused where the table is not opened; else it is decided by reading what is loaded, and the work slice is cleared.
+use mathlib.Core.Path.{refl, _∙_, ap}
+use native.Mathlib.Omega.{arith}
 use borrow.Author.Needs.{needs}
-use Rattle.definitions.specs.declared.Order.the-variants.{Unsigned}
-use Rattle.definitions.specs.Table.{textOf, ruleCount}
-use Rattle.definitions.specs.Services.{done, readingOutcome, tableChecks, readService}
-use Rattle.checks.specs.Checks.{readingOf, shapeChecks, readChecks}
-use Rattle.checks.proofs.Serving.{refused-front, decided, done-all, done-value}
-use Rattle.shapes.proofs.Shaping.{shape-keeps, passed-shaped}
+use Rattle.definitions.specs.declared.Answer.{Answer}
+use Rattle.definitions.specs.Services.{readingOutcome, readService}
+use Rattle.lists.specs.Serving.{passed, worked}
+use Rattle.checks.specs.Checks.{readingOf}
+use Rattle.opening.proofs.Services.{ready, opened-cleared, opening-refused, opening-done}
 use Rattle.reading.proofs.read.Statement.{statement}
 use Rattle.reading.proofs.read.Tie as tie
 
-shaped-requires : tie.Need-shaped-requires
-shaped-requires c κs = search needs
-
-enum-known-a : tie.Need-enum-known-a
-enum-known-a c = search needs
-
-enum-told : tie.Need-enum-told
-enum-told c = search needs
-
-reading-requires : tie.Need-reading-requires
-reading-requires c κs = search needs
-
 returns : tie.Need-returns
-unfolding readService tableChecks readingOutcome readingOf
+unfolding readService readingOutcome readingOf
 returns c =
-    let told = c .before in
-    let h = told .before .before in
-    let a = h .before .before .before .before .args in
-    let t = a .table .now in
-    let n = length (a .work .now) in
-    let m = length (a .result .now) in
-    let served = refused-front (readService Unsigned t n m) (shapeChecks t n) (readChecks Unsigned t m) refl (λ r. readingOutcome (readingOf r 0)) (λ x y. refl) (a .work .now) (a .result .now) (shape-keeps t n) (h .shaped .result) (ruleCount t) _ _ (h .shaped .ensures) (told .enum-told .given .1) in
-    (ap readingOutcome (c .reading .ensures) ∙ served .0, served .1)
+    let m = c .before .before .before .before .before in
+    opening-refused _ (m .admit .ensures) (c .before .enum-told .given .1)
+    (λ x y e. ap readingOutcome (c .reading .ensures ∙ ap (λ (a : Answer). readingOf a 0) e)) (λ d. refl)
 
-chair-of-requires : tie.Need-chair-of-requires
-chair-of-requires c κs =
-    let told = c .before in
-    let h = told .before .before in
-    let a = h .before .before .before .before .args in
-    let t = a .table .now in
-    let n = length (a .work .now) in
-    passed-shaped t n (done-all (shapeChecks t n) (ruleCount t) _ (sym (h .shaped .ensures) ∙ told .a .given .1)) .0
+part-read-loaded-end : tie.Need-part-read-loaded-end
+part-read-loaded-end c =
+    let k = c .before .before in
+    omega (arith, opening-done (k .before .before .before .before .admit .ensures) (k .a .given .1) .1 .long)
 
-read-shaped-requires : tie.Need-read-shaped-requires
-read-shaped-requires c κs =
-    let told = c .before .before .before .before in
-    let h = told .before .before in
-    let a = h .before .before .before .before .args in
-    let t = a .table .now in
-    let n = length (a .work .now) in
-    let (shaped, most, long) = passed-shaped t n (done-all (shapeChecks t n) (ruleCount t) _ (sym (h .shaped .ensures) ∙ told .a .given .1)) in
-    (shaped, most, long, done-value (shapeChecks t n) (ruleCount t) _ (sym (h .shaped .ensures) ∙ told .a .given .1))
+read-loaded-requires : tie.Need-read-loaded-requires
+unfolding ready
+read-loaded-requires c κs =
+    let k = c .before .before .before .before in
+    let (p, x, e) = opening-done (k .before .before .before .before .admit .ensures) (k .a .given .1) in
+    (ready x, e)
 
-reading-requires-2 : tie.Need-reading-requires-2
-reading-requires-2 c κs = search needs
-
-same-length : tie.Need-same-length
-same-length c = search needs
-
-same-length-2 : tie.Need-same-length-2
-same-length-2 c = search needs
+clear-front-requires : tie.Need-clear-front-requires
+clear-front-requires c κs =
+    let k = c .before .before .before .before .before .before .before .before in
+    opening-done (k .before .before .before .before .admit .ensures) (k .a .given .1) .1 .long
 
 returns-2 : tie.Need-returns-2
-unfolding readService tableChecks readingOutcome readingOf
+unfolding readService ready
 returns-2 c =
-    let b = c .before .before .before .before .before in
-    let k = b .before .before .before in
-    let told = k .before .before in
-    let h = told .before .before in
-    let a = h .before .before .before .before .args in
-    let t = a .table .now in
-    let n = length (a .work .now) in
-    let m = length (a .result .now) in
-    let passed = done-all (shapeChecks t n) (ruleCount t) _ (sym (h .shaped .ensures) ∙ told .a .given .1) in
-    let served = decided (readService Unsigned t n m) (shapeChecks t n) (readChecks Unsigned t m) refl (λ r. readingOutcome (readingOf r (k .chair-of .result))) (λ x y. refl) (a .work .now) (a .result .now) passed (refl, (refl, refl)) (b .read-shaped .result) (length (textOf Unsigned t)) (b .read-shaped .last .1 .1 .1 .1 .0) (b .read-shaped .last .1 .1 .1 .0) (ap (λ (x : ℕ). done (length (textOf Unsigned t)) x) (k .chair-of .ensures)) (b .read-shaped .ensures .0) (b .read-shaped .ensures .1 .0) (b .read-shaped .ensures .1 .1) in
-    (ap readingOutcome (c .reading2 .ensures) ∙ served .0, served .1)
+    let z = c .before .before in
+    let b = z .before .before .before .before in
+    let k = b .before .before .before .before .before in
+    let m = k .before .before .before .before in
+    let a = m .before .before .before .before .before .args in
+    let (p, x, e) = opening-done (m .admit .ensures) (k .a .given .1) in
+    passed p (worked (a .work .now) (z .clear-front .last .0) (refl, refl) (z .clear-front .ensures ∙ opened-cleared x) (b .read-loaded .ensures (ready x) e))
 
 pub read-spec : {M : Type 1} → statement M
 read-spec =
     tie.close
-    (tie.spec
-    shaped-requires
-    enum-known-a
-    enum-told
-    reading-requires
-    returns
-    chair-of-requires
-    read-shaped-requires
-    reading-requires-2
-    same-length
-    same-length-2
-    returns-2)
+    (tie.spec (λ c κs. search needs) (λ c. search needs) (λ c. search needs) (λ c κs. search needs) (λ c. search needs) returns (λ c. search needs)
+    (λ c. search needs) part-read-loaded-end read-loaded-requires clear-front-requires (λ c. search needs) (λ c. search needs) returns-2)

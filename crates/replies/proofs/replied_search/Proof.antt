@@ -5,12 +5,9 @@ use borrow.Author.Needs.{needs}
 use Rattle.replies.proofs.replied_search.Statement.{statement}
 use Rattle.replies.proofs.replied_search.Tie as tie
 
-replied-requires : tie.Need-replied-requires
-replied-requires c κs = search needs
-
 returns : tie.Need-returns
 unfolding replyNumbers searchNumbers searchOutcome
 returns c = c .replied .ensures
 
 pub replied-search-spec : {M : Type 1} → statement M
-replied-search-spec = tie.close (tie.spec replied-requires returns)
+replied-search-spec = tie.close (tie.spec (λ c κs. search needs) returns)

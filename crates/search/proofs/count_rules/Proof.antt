@@ -1,6 +1,6 @@
 -- `count_rules` counts rule after rule. The loop's invariant: whatever text is loaded, the rules before r are counted.
 use mathlib.Core.Path.{_≡_, refl, _∙_, subst}
-use Prim.Native.Nat.{ℕ, _-_, _≤_}
+use Prim.Native.Nat.{ℕ, _-_, _≤_, _<_}
 use native.Mathlib.Omega.{arith}
 use lib.ListN.{length}
 use Rattle.lyndon.specs.Reading.{rule-range}
@@ -15,9 +15,6 @@ Inv-loop order pattern work₀ rules r₀ work r = (r ≤ rules) × (length work
 abbrev μ-loop : tie.MeasureT-loop
 μ-loop order pattern work₀ rules r₀ work r = rules - r
 
-loop-holds : tie.Need-loop-holds Inv-loop μ-loop
-loop-holds c = (omega arith, refl, λ text chair h e. h)
-
 found-in-requires : tie.Need-found-in-requires Inv-loop μ-loop
 found-in-requires c κs =
     let at = c .before .before in
@@ -25,27 +22,22 @@ found-in-requires c κs =
     let h = s .pre in
     record { text = h .text; chair = h .chair; counting = at .loop .inv .2 (h .text) (h .chair) (h .counting) (h .size); low = omega (arith, h .size, c .before .loop-test .taken) }
 
+-- rule r of those that are counted
+low : (s : tie.Start Inv-loop μ-loop) (r : ℕ) → r < s .args .rules → r < 2304
+low s r l = let h = s .pre in omega (arith, h .size, rule-range (s .args .order) (h .text) (h .chair) (h .counting .loaded .kept .stored))
+
 add-put : tie.Need-add-put Inv-loop μ-loop
 add-put c =
-    let at = c .before .before .before .before in
-    let s = at .before .before .before in
-    let h = s .pre in
-    let n = rule-range (s .args .order) (h .text) (h .chair) (h .counting .loaded .kept .stored) in
-    omega (arith, h .size, c .before .before .before .loop-test .taken)
+    let i = c .before .before .before in
+    let at = i .before in
+    omega (arith, low (at .before .before .before) (at .loop .r) (i .loop-test .taken))
 
 put-requires : tie.Need-put-requires Inv-loop μ-loop
 put-requires c κs =
-    let at = c .before .before .before .before in
+    let i = c .before .before .before in
+    let at = i .before in
     let s = at .before .before .before in
-    let h = s .pre in
-    let n = rule-range (s .args .order) (h .text) (h .chair) (h .counting .loaded .kept .stored) in
-    omega (arith, h .size, c .before .before .before .loop-test .taken, at .loop .inv .1, h .counting .loaded .kept .long)
-
-add-r : tie.Need-add-r Inv-loop μ-loop
-add-r c = omega arith
-
-loop-less : tie.Need-loop-less Inv-loop μ-loop
-loop-less c = omega arith
+    omega (arith, low s (at .loop .r) (i .loop-test .taken), at .loop .inv .1, s .pre .counting .loaded .kept .long)
 
 loop-again : tie.Need-loop-again Inv-loop μ-loop
 loop-again c =
@@ -61,9 +53,6 @@ loop-again c =
           (i .loop-test .taken) (at .loop .inv .2) (f .found-in .ensures) (p .put .ensures),
     )
 
-same-length : tie.Need-same-length Inv-loop μ-loop
-same-length c = c .before .loop .inv .1
-
 returns : tie.Need-returns Inv-loop μ-loop
 returns c text chair h e =
     let at = c .before in
@@ -74,15 +63,4 @@ returns c text chair h e =
 pub count-rules-spec : {M : Type 1} → statement M
 count-rules-spec =
     tie.close
-    (tie.spec
-    Inv-loop
-    μ-loop
-    loop-holds
-    found-in-requires
-    add-put
-    put-requires
-    add-r
-    loop-less
-    loop-again
-    same-length
-    returns)
+    (tie.spec Inv-loop μ-loop (λ c. (omega arith, refl, λ text chair h e. h)) found-in-requires add-put put-requires (λ c. omega arith) (λ c. omega arith) loop-again (λ c. c .before .loop .inv .1) returns)

@@ -1,73 +1,68 @@
--- `found_in` tells a symbol from a pair by the first word of the rule.
-use mathlib.Core.Path.{_∙_}
-use Rattle.search.proofs.Standing.{symbol-rule, pair-rule}
-use Rattle.search.proofs.Counting.{turn-known}
+-- `found_in` adds for a pair what both halves have and the occurrence at the join, for which it tries the cuts where the rule stands.
+use mathlib.Core.Path.{_≡_, sym, _∙_}
+use native.Mathlib.Omega.{arith}
+use lib.ListN.{length-map}
+use borrow.Author.Needs.{needs}
+use Rattle.definitions.specs.Table.{rankOf}
+use Rattle.layout.specs.Layout.{placeIn}
+use Rattle.decoding.specs.declared.Rule.the-variants.{Pair}
+use Rattle.decoding.specs.Decoding.{ruleIn}
+use Rattle.search.proofs.Counting.{PairKnown, turn-known, pair-known, pair-found}
 use Rattle.search.proofs.found_in.Statement.{statement}
 use Rattle.search.proofs.found_in.Tie as tie
 
-is-symbol-requires : tie.Need-is-symbol-requires
-is-symbol-requires c κs = turn-known (c .before .before .pre)
-
 found-in-symbol-requires : tie.Need-found-in-symbol-requires
 found-in-symbol-requires c κs =
-    let s = c .before .before .before .before in
-    let a = s .args in
-    let h = s .pre in
-    record {
-      turn = h;
-      is-symbol = symbol-rule (a .order) (h .text) (h .chair) (a .work .now) (h .counting .loaded) (a .r) (h .low) (c .before .is-symbol .ensures .0 (c .if1 .taken));
-    }
+    let (q, e) = c .enum-told .given in
+    let r = c .before .before in
+    record { turn = r .before .before .before .pre; number = q .0; beside = q .1 .0; rule = sym (r .rule-in .ensures) ∙ e }
 
 returns : tie.Need-returns
 returns c h =
-    let t = c .before in
-    let a = t .before .before .before .before .args in
-    c .found-in-symbol .ensures record {
-      turn = h;
-      is-symbol = symbol-rule (a .order) (h .text) (h .chair) (a .work .now) (h .counting .loaded) (a .r) (h .low) (t .before .is-symbol .ensures .0 (t .if1 .taken));
-    }
+    let (q, e) = c .before .enum-told .given in
+    c .found-in-symbol .ensures record { turn = h; number = q .0; beside = q .1 .0; rule = sym (c .before .before .before .rule-in .ensures) ∙ e }
 
-left-of-requires : tie.Need-left-of-requires
-left-of-requires c κs = turn-known (c .before .before .before .before .pre)
+-- the rule is read as a pair
+is-pair : (c : tie.After-rule) → let a = c .before .before .before .before .before .args in ruleIn (a .work .now) (a .r) ≡ Pair (c .rule .given .0 .0) (c .rule .given .0 .1 .0)
+is-pair c = sym (c .before .before .rule-in .ensures) ∙ c .rule .given .1
 
-right-of-requires : tie.Need-right-of-requires
-right-of-requires c κs = turn-known (c .before .before .before .before .before .pre)
+known : (c : tie.After-rule) → let a = c .before .before .before .before .before .args in
+    PairKnown (c .rule .given .0 .0) (c .rule .given .0 .1 .0) (placeIn (a .work .now) (a .r)) (a .work .now)
+known c = pair-known (c .before .before .before .before .before .pre) (c .rule .given .0 .0) (c .rule .given .0 .1 .0) (is-pair c)
 
-found-in-pair-requires : tie.Need-found-in-pair-requires
-found-in-pair-requires c κs =
-    let e = c .before .before in
-    let s = e .before .before .before .before in
-    let a = s .args in
-    let h = s .pre in
-    let q = pair-rule (a .order) (h .text) (h .chair) (a .work .now) (h .counting .loaded) (a .r) (h .low) (e .before .is-symbol .ensures .1 (e .if1 .left)) in
-    record {
-      turn = h;
-      is-pair = q .0;
-      left = c .before .left-of .ensures ∙ q .1;
-      right = c .right-of .ensures ∙ q .2;
-    }
+cut-at-join-requires : tie.Need-cut-at-join-requires
+cut-at-join-requires c κs =
+    let n = c .before .before in
+    let r = n .before .before in
+    let h = r .before .before .before .before .before .pre in
+    (h .counting .pattern .filled, h .counting .pattern .short, h .counting .flagged, omega (arith, known r .inside, c .place-of .ensures, c .before .length-of2 .ensures, n .length-of .ensures), turn-known h .long)
+
+add-found : tie.Need-add-found
+add-found c = omega (arith, known (c .before .before .before .before .before .before .before) .most, c .number-of2 .ensures, c .before .number-of .ensures)
+
+found-requires : tie.Need-found-requires
+found-requires c κs =
+    let j = c .before .before in
+    let r = j .before .before .before .before .before in
+    let s = r .before .before .before .before .before in (
+      omega (arith, known r .most, c .number-of2 .ensures, c .before .number-of .ensures),
+      omega (arith, s .pre .counting .pattern .short, j .cut-at-join .ensures .small, length-map (s .args .pattern .now) (rankOf (s .args .order))),
+    )
 
 returns-2 : tie.Need-returns-2
 returns-2 c h =
-    let w = c .before in
-    let e = w .before .before in
-    let a = e .before .before .before .before .args in
-    let q = pair-rule (a .order) (h .text) (h .chair) (a .work .now) (h .counting .loaded) (a .r) (h .low) (e .before .is-symbol .ensures .1 (e .if1 .left)) in
-    c .found-in-pair .ensures record {
-      turn = h;
-      is-pair = q .0;
-      left = w .before .left-of .ensures ∙ q .1;
-      right = w .right-of .ensures ∙ q .2;
-    }
+    let n = c .before in
+    let j = n .before .before in
+    let p = j .before in
+    let r = p .before .before .before .before in
+    pair-found h (r .rule .given .0 .0) (r .rule .given .0 .1 .0) (is-pair r)
+    (p .place-of .result) (p .before .before .length-of .result) (p .before .length-of2 .result) (j .cut-at-join .result) (c .found .result)
+    (p .place-of .ensures) (p .before .before .length-of .ensures) (p .before .length-of2 .ensures)
+    (j .cut-at-join .ensures) (omega (arith, c .found .ensures .0, n .number-of2 .ensures, n .before .number-of .ensures)) (c .found .ensures .1)
 
 pub found-in-spec : {M : Type 1} → statement M
 found-in-spec =
     tie.close
-    (tie.spec
-    is-symbol-requires
-    found-in-symbol-requires
-    returns
-    left-of-requires
-    right-of-requires
-    found-in-pair-requires
-    returns-2)
+    (tie.spec (λ c κs. turn-known (c .before .before .pre)) (λ c. search needs) (λ c. search needs) found-in-symbol-requires returns
+    (λ c κs. known (c .before) .left) (λ c κs. known (c .before .before) .right) (λ c κs. turn-known (c .before .before .before .before .before .before .before .before .pre)) cut-at-join-requires
+    (λ c κs. known (c .before .before .before .before .before) .left) (λ c κs. known (c .before .before .before .before .before .before) .right) add-found found-requires returns-2)

@@ -1,84 +1,72 @@
--- `locate` ends in one of two ways: refused by the pattern or the table's shape, or decided by what the table spells and by the result slice.
-use mathlib.Core.Path.{refl, sym, _∙_}
-use mathlib.Core.List.{_++_}
+-- `locate` is refused by the pattern, or where the table is not opened; else it is decided by delivering what is found, and the work slice is cleared.
+use mathlib.Core.Path.{refl, _∙_}
+use native.Mathlib.Omega.{arith}
 use lib.ListN.{length}
 use borrow.Author.Needs.{needs}
-use Rattle.definitions.specs.declared.Order.the-variants.{Unsigned}
-use Rattle.definitions.specs.Table.{textOf, ruleCount}
-use Rattle.definitions.specs.Occurrences.{occurrences}
-use Rattle.definitions.specs.Services.{outcomeOf, searchOutcome, patternChecks, tableChecks, locateService}
-use Rattle.checks.specs.Checks.{shapeChecks, locateChecks}
-use Rattle.checks.proofs.Serving.{refused-front, decided, done-all, done-value, passed-parts}
-use Rattle.shapes.proofs.Shaping.{passed-pattern, passed-shaped}
+use Rattle.definitions.specs.Services.{searchOutcome, patternChecks, tableChecks, locateService}
+use Rattle.lists.specs.Decisions.{done-all}
+use Rattle.lists.specs.Serving.{answer-refuses, refused-front, passed, worked}
+use Rattle.checks.proofs.Fronts.{work-cleared}
+use Rattle.checks.proofs.Patterns.{pattern-keeps, passed-pattern}
+use Rattle.opening.proofs.Services.{ready, opened-cleared, opening-refused, opening-done}
 use Rattle.searching.proofs.locate.Statement.{statement}
 use Rattle.searching.proofs.locate.Tie as tie
 
-searchable-requires : tie.Need-searchable-requires
-searchable-requires c κs = search needs
-
-enum-known-a : tie.Need-enum-known-a
-enum-known-a c = search needs
-
-enum-told : tie.Need-enum-told
-enum-told c = search needs
-
 returns : tie.Need-returns
-unfolding locateService patternChecks tableChecks outcomeOf searchOutcome
+unfolding locateService searchOutcome patternChecks tableChecks
 returns c =
-    let h = c .before .before in
-    let a = h .before .before .before .before .before .args in
-    let t = a .table .now in
-    let p = a .pattern .now in
-    let n = length (a .work .now) in
-    let m = length (a .result .now) in
-    let front = patternChecks p ++ shapeChecks t n in
-    refused-front (locateService Unsigned t p n m) front (locateChecks Unsigned t p m) refl outcomeOf (λ x y. refl) (a .work .now) (a .result .now) (refl, (refl, (refl, (refl, (refl, refl))))) (h .searchable .result) (ruleCount t) _ _ (h .searchable .ensures) (c .enum-told .given .1)
-
-locate-shaped-requires : tie.Need-locate-shaped-requires
-locate-shaped-requires c κs =
-    let told = c .before .before .before in
-    let h = told .before .before in
-    let a = h .before .before .before .before .before .args in
-    let t = a .table .now in
-    let p = a .pattern .now in
-    let n = length (a .work .now) in
-    let m = length (a .result .now) in
-    let front = patternChecks p ++ shapeChecks t n in
-    let (pattern, table) = passed-parts (patternChecks p) (shapeChecks t n) (done-all front (ruleCount t) _ (sym (h .searchable .ensures) ∙ told .a .given .1)) in
-    let (shaped, most, long) = passed-shaped t n table in
-    let (some, short) = passed-pattern p pattern in
-    (shaped, most, long, done-value front (ruleCount t) _ (sym (h .searchable .ensures) ∙ told .a .given .1), some, short)
-
-same-length : tie.Need-same-length
-same-length c = search needs
-
-same-length-2 : tie.Need-same-length-2
-same-length-2 c = search needs
+    let f = c .before .before in
+    let p = f .before .before .before .before .before .args .pattern .now in
+    refused-front (patternChecks p) _ (length p) (pattern-keeps p) (f .pattern-fits .ensures) (c .enum-told2 .given .1) (answer-refuses (f .pattern-fits .result)) (λ d e. rw e)
 
 returns-2 : tie.Need-returns-2
-unfolding locateService patternChecks tableChecks outcomeOf searchOutcome
+unfolding locateService searchOutcome patternChecks tableChecks
 returns-2 c =
-    let k = c .before .before .before .before in
-    let told = k .before .before .before .before in
-    let h = told .before .before in
-    let a = h .before .before .before .before .before .args in
-    let t = a .table .now in
+    let m = c .before .before .before .before in
+    let f = m .before .before .before .before in
+    let p = f .before .before .before .before .before .args .pattern .now in
+    passed (done-all (patternChecks p) (length p) (f .pattern-fits .ensures) (m .before .before .enum-told .given .1) .0)
+    (opening-refused _ (m .admit .ensures) (c .enum-told3 .given .1) (answer-refuses (m .admit .result)) (λ d. refl))
+
+part-locate-loaded-end : tie.Need-part-locate-loaded-end
+part-locate-loaded-end c =
+    let k = c .before in
+    omega (arith, opening-done (k .before .before .before .before .admit .ensures) (k .a .given .1) .1 .long)
+
+locate-loaded-requires : tie.Need-locate-loaded-requires
+unfolding ready
+locate-loaded-requires c κs =
+    let k = c .before .before .before in
+    let m = k .before .before .before .before in
+    let f = m .before .before .before .before in
+    let p = f .before .before .before .before .before .args .pattern .now in
+    let (_, x, e) = opening-done (m .admit .ensures) (k .a .given .1) in
+    let (some, short) = passed-pattern p (done-all (patternChecks p) (length p) (f .pattern-fits .ensures) (m .before .before .enum-told .given .1) .0) in
+    (ready x, refl, e, some, short)
+
+clear-front-requires : tie.Need-clear-front-requires
+clear-front-requires c κs =
+    let k = c .before .before .before .before .before .before .before .before .before in
+    omega (arith, opening-done (k .before .before .before .before .admit .ensures) (k .a .given .1) .1 .long)
+
+returns-3 : tie.Need-returns-3
+unfolding locateService searchOutcome patternChecks tableChecks ready
+returns-3 c =
+    let z = c .before .before in
+    let b = z .before .before .before .before .before .before in
+    let k = b .before .before .before .before in
+    let m = k .before .before .before .before in
+    let f = m .before .before .before .before in
+    let a = f .before .before .before .before .before .args in
     let p = a .pattern .now in
-    let n = length (a .work .now) in
-    let m = length (a .result .now) in
-    let front = patternChecks p ++ shapeChecks t n in
-    let passed = done-all front (ruleCount t) _ (sym (h .searchable .ensures) ∙ told .a .given .1) in
-    decided (locateService Unsigned t p n m) front (locateChecks Unsigned t p m) refl outcomeOf (λ x y. refl) (a .work .now) (a .result .now) passed (refl, (refl, refl)) (k .locate-shaped .result) (length (occurrences p (textOf Unsigned t))) (k .locate-shaped .last .1 .1 .1 .1 .1 .0) (k .locate-shaped .last .1 .1 .1 .1 .0) refl (k .locate-shaped .ensures .0) (k .locate-shaped .ensures .1 .0) (k .locate-shaped .ensures .1 .1)
+    let (o, x, e) = opening-done (m .admit .ensures) (k .a .given .1) in
+    passed (done-all (patternChecks p) (length p) (f .pattern-fits .ensures) (m .before .before .enum-told .given .1) .0)
+    (passed o (worked (a .work .now) (z .clear-front .last .0) (refl, refl)
+    (work-cleared (m .admit .last .1 .1 .0) (b .locate-loaded .last .1 .1 .1 .0) (z .clear-front .last .0) (x .long) (b .locate-loaded .kept .1 .1 .1 .0) (z .clear-front .ensures) ∙ opened-cleared x)
+    (b .locate-loaded .ensures (ready x) refl e)))
 
 pub locate-spec : {M : Type 1} → statement M
 locate-spec =
     tie.close
-    (tie.spec
-    searchable-requires
-    enum-known-a
-    enum-told
-    returns
-    locate-shaped-requires
-    same-length
-    same-length-2
-    returns-2)
+    (tie.spec (λ c κs. search needs) (λ c. search needs) (λ c. search needs) returns (λ c κs. search needs) (λ c. search needs) (λ c. search needs) (λ c. search needs)
+    returns-2 (λ c. search needs) (λ c. search needs) part-locate-loaded-end locate-loaded-requires clear-front-requires (λ c. search needs) (λ c. search needs) returns-3)

@@ -10,18 +10,6 @@ returns c =
     let a = c .before .args in
     mark-placed (a .number) (a .result .now) (c .if1 .taken)
 
-sub-result : tie.Need-sub-result
-sub-result c = search needs
-
-cast-result : tie.Need-cast-result
-cast-result c = search needs
-
-slice-write-result : tie.Need-slice-write-result
-slice-write-result c = omega (arith, sample-size (c .before .args .number) (c .if1 .left))
-
-same-length : tie.Need-same-length
-same-length c = search needs
-
 returns-2 : tie.Need-returns-2
 returns-2 c =
     let a = c .before .args in
@@ -30,4 +18,5 @@ returns-2 c =
 
 pub spell-symbol-spec : {M : Type 1} → statement M
 spell-symbol-spec =
-    tie.close (tie.spec returns sub-result cast-result slice-write-result same-length returns-2)
+    tie.close
+    (tie.spec returns (λ c. search needs) (λ c. search needs) (λ c. omega (arith, sample-size (c .before .args .number) (c .if1 .left))) (λ c. search needs) returns-2)

@@ -5,12 +5,6 @@ use Rattle.spelling.proofs.Texts.{loaded-length}
 use Rattle.spelling.proofs.text_length.Statement.{statement}
 use Rattle.spelling.proofs.text_length.Tie as tie
 
-shared-slice-read-wide : tie.Need-shared-slice-read-wide
-shared-slice-read-wide c = omega (arith, c .before .before .pre .loaded .long)
-
-wide-requires : tie.Need-wide-requires
-wide-requires c κs = search needs
-
 sub-result : tie.Need-sub-result
 sub-result c =
     let at = c .before .before .before in
@@ -22,4 +16,6 @@ returns c h =
     omega (arith, c .wide .ensures, loaded-length (at .args .work .now) h)
 
 pub text-length-spec : {M : Type 1} → statement M
-text-length-spec = tie.close (tie.spec shared-slice-read-wide wide-requires sub-result returns)
+text-length-spec =
+    tie.close
+    (tie.spec (λ c. omega (arith, c .before .before .pre .loaded .long)) (λ c κs. search needs) sub-result returns)

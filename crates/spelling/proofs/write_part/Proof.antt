@@ -12,38 +12,15 @@ use Rattle.spelling.proofs.Texts.{loaded-length, loaded-piece}
 use Rattle.spelling.proofs.write_part.Statement.{statement}
 use Rattle.spelling.proofs.write_part.Tie as tie
 
-add-from : tie.Need-add-from
-add-from c =
-    let s = c .before .before in
-    omega (arith, s .pre .2, s .pre .0 .stored .short)
-
-add-end : tie.Need-add-end
-add-end c =
-    let s = c .before .before in
-    omega (arith, s .pre .2, s .pre .0 .stored .short)
-
-mul-write-samples : tie.Need-mul-write-samples
-mul-write-samples c = search needs
-
-sub-write-samples : tie.Need-sub-write-samples
-sub-write-samples c = search needs
-
-part-write-samples-start : tie.Need-part-write-samples-start
-part-write-samples-start c = search needs
-
-part-write-samples-end : tie.Need-part-write-samples-end
-part-write-samples-end c =
-    let s = c .before .before in
-    omega (arith, s .pre .2, s .pre .0 .stored .short, s .pre .0 .loaded .long)
+-- the part ends in the work slice
+inside : (s : tie.Start) → 1 + s .args .start + s .args .count ≤ 2048
+inside s = omega (arith, s .pre .2, s .pre .0 .stored .short)
 
 write-samples-requires : tie.Need-write-samples-requires
 write-samples-requires c κs =
     let s = c .before .before .before .before in
     let piece = loaded-piece (s .args .work .now) (s .pre .0) (s .args .start) (s .args .count) (s .pre .2) in
     (piece .ranks, omega (arith, piece .size, s .pre .3))
-
-same-length : tie.Need-same-length
-same-length c = search needs
 
 returns : tie.Need-returns
 returns c h e =
@@ -59,13 +36,5 @@ returns c h e =
 pub write-part-spec : {M : Type 1} → statement M
 write-part-spec =
     tie.close
-    (tie.spec
-    add-from
-    add-end
-    mul-write-samples
-    sub-write-samples
-    part-write-samples-start
-    part-write-samples-end
-    write-samples-requires
-    same-length
-    returns)
+    (tie.spec (λ c. omega (arith, inside (c .before .before))) (λ c. omega (arith, inside (c .before .before))) (λ c. search needs) (λ c. search needs) (λ c. search needs) (λ c. omega (arith, inside (c .before .before), c .before .before .pre .0 .loaded .long)) write-samples-requires
+    (λ c. search needs) returns)

@@ -30,12 +30,6 @@ join-top-requires c κs =
     let s = at .before .before in
     left-joins (at .loop .work) (at .loop .t .rules) (at .loop .t .depth) (at .loop .left) (s .pre .o) (joins (s .args .k) (s .pre .s)) (at .loop .inv .2 (s .pre)) (omega arith) (s .pre .room)
 
-sub-left : tie.Need-sub-left Inv-loop μ-loop
-sub-left c = omega arith
-
-loop-less : tie.Need-loop-less Inv-loop μ-loop
-loop-less c = omega arith
-
 loop-again : tie.Need-loop-again Inv-loop μ-loop
 unfolding left-joins
 loop-again c =
@@ -66,15 +60,4 @@ returns c =
     )
 
 pub join-all-spec : {M : Type 1} → statement M
-join-all-spec =
-    tie.close
-    (tie.spec
-    Inv-loop
-    μ-loop
-    loop-holds
-    join-top-requires
-    sub-left
-    loop-less
-    loop-again
-    same-length
-    returns)
+join-all-spec = tie.close (tie.spec Inv-loop μ-loop loop-holds join-top-requires (λ c. omega arith) (λ c. omega arith) loop-again same-length returns)

@@ -20,9 +20,6 @@ look-up-requires c κs =
       p .holds .rules .long,
     )
 
-add-put : tie.Need-add-put
-add-put c = search needs
-
 cast-put : tie.Need-cast-put
 cast-put c =
     let f = c .before .before in
@@ -31,15 +28,6 @@ cast-put c =
     let n = a .c .rules in
     let d = a .c .depth in
     omega (arith, pushes-most (a .work .now) n d (a .x) (a .y) (s .pre))
-
-put-requires : tie.Need-put-requires
-put-requires c κs = search needs
-
-add-t14 : tie.Need-add-t14
-add-t14 c = search needs
-
-same-length : tie.Need-same-length
-same-length c = search needs
 
 returns : tie.Need-returns
 returns c =
@@ -62,9 +50,6 @@ add-requires c κs =
     let d = a .c .depth in
     (pushes-room (a .work .now) n d (a .x) (a .y) (f .look-up .result) (s .pre) (f .look-up .ensures) (c .before .if1 .left), s .pre .holds .rules .long)
 
-add-put-2 : tie.Need-add-put-2
-add-put-2 c = search needs
-
 cast-put-2 : tie.Need-cast-put-2
 cast-put-2 c =
     let f = c .before .before .before .before .before .before in
@@ -74,9 +59,6 @@ cast-put-2 c =
     let d = a .c .depth in
     omega (arith, pushes-most (a .work .now) n d (a .x) (a .y) (s .pre))
 
-put-requires-2 : tie.Need-put-requires-2
-put-requires-2 c κs = search needs
-
 add-t21 : tie.Need-add-t21
 add-t21 c =
     let f = c .before .before .before .before .before .before .before .before .before in
@@ -85,12 +67,6 @@ add-t21 c =
     let n = a .c .rules in
     let d = a .c .depth in
     omega (arith, pushes-most (a .work .now) n d (a .x) (a .y) (s .pre))
-
-add-t23 : tie.Need-add-t23
-add-t23 c = search needs
-
-same-length-2 : tie.Need-same-length-2
-same-length-2 c = search needs
 
 returns-2 : tie.Need-returns-2
 returns-2 c =
@@ -108,19 +84,5 @@ returns-2 c =
 pub push-rule-spec : {M : Type 1} → statement M
 push-rule-spec =
     tie.close
-    (tie.spec
-    look-up-requires
-    add-put
-    cast-put
-    put-requires
-    add-t14
-    same-length
-    returns
-    add-requires
-    add-put-2
-    cast-put-2
-    put-requires-2
-    add-t21
-    add-t23
-    same-length-2
-    returns-2)
+    (tie.spec look-up-requires (λ c. search needs) cast-put (λ c κs. search needs) (λ c. search needs) (λ c. search needs) returns add-requires
+    (λ c. search needs) cast-put-2 (λ c κs. search needs) add-t21 (λ c. search needs) (λ c. search needs) returns-2)

@@ -1,21 +1,26 @@
--- `chair_of` reads the number of word 1, which is no bad word.
-use mathlib.Core.Path.{refl}
+-- `chair_of` answers what stands beside the symbol of rule 0, which cannot be a pair.
+use mathlib.Core.Path.{refl, sym, _∙_}
 use native.Mathlib.Omega.{arith}
-use Rattle.definitions.specs.Table.{numberOf, chairOf}
-use Rattle.lyndon.specs.Shapes.{chair-small}
+use borrow.Author.Needs.{needs}
+use Rattle.decoding.proofs.Rules.{SymbolOf, symbol-read, pair-read}
 use Rattle.tables.proofs.chair_of.Statement.{statement}
 use Rattle.tables.proofs.chair_of.Tie as tie
 
-shared-slice-read-result : tie.Need-shared-slice-read-result
-shared-slice-read-result c = omega (arith, c .before .pre .even, c .before .pre .filled)
+-- rule 0 is read as a symbol
+symbol : (c : tie.After-rule) → SymbolOf (c .before .before .before .before .args .table .now) 0 (c .rule .given .0 .0) (c .rule .given .0 .1 .0)
+symbol c =
+    let r = c .before .before in
+    let s = r .before .before in
+    symbol-read (s .args .table .now) 0 (s .pre) (omega (arith, s .pre .even, s .pre .filled)) (c .rule .given .0 .0) (c .rule .given .0 .1 .0) (sym (r .rule-of .ensures) ∙ c .rule .given .1)
 
-cast-result : tie.Need-cast-result
-unfolding numberOf
-cast-result c = omega (arith, chair-small (c .before .args .table .now) (c .before .pre))
-
-returns : tie.Need-returns
-unfolding chairOf numberOf
-returns c = refl
+returns-2 : tie.Need-returns-2
+returns-2 c =
+    let (q, e) = c .enum-told .given in
+    let r = c .before .before in
+    let s = r .before .before in
+    absurd (omega (arith, pair-read (s .args .table .now) 0 (s .pre) (omega (arith, s .pre .even, s .pre .filled)) (q .0) (q .1 .0) (sym (r .rule-of .ensures) ∙ e) .left))
 
 pub chair-of-spec : {M : Type 1} → statement M
-chair-of-spec = tie.close (tie.spec shared-slice-read-result cast-result returns)
+chair-of-spec =
+    tie.close
+    (tie.spec (λ c κs. omega (arith, c .before .pre .even, c .before .pre .filled)) (λ c. search needs) (λ c. omega (arith, symbol (c .before) .small)) (λ c. search needs) (λ c. symbol (c .before) .chair refl) returns-2)

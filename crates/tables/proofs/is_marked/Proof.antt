@@ -13,23 +13,8 @@ Inv-loop work n alone₀ i₀ alone i = (0 < i) × (i ≤ n) × Decided alone wo
 abbrev μ-loop : tie.MeasureT-loop
 μ-loop work n alone₀ i₀ alone i = n - i
 
-shared-slice-read-alone : tie.Need-shared-slice-read-alone Inv-loop μ-loop
-shared-slice-read-alone c = omega arith
-
 loop-holds : tie.Need-loop-holds Inv-loop μ-loop
 loop-holds c = (omega arith, omega arith, first-decided (c .before .args .work .now))
-
-mul-alone : tie.Need-mul-alone Inv-loop μ-loop
-mul-alone c = search needs
-
-shared-slice-read-alone-2 : tie.Need-shared-slice-read-alone-2 Inv-loop μ-loop
-shared-slice-read-alone-2 c = omega arith
-
-add-i : tie.Need-add-i Inv-loop μ-loop
-add-i c = search needs
-
-loop-less : tie.Need-loop-less Inv-loop μ-loop
-loop-less c = omega arith
 
 loop-again : tie.Need-loop-again Inv-loop μ-loop
 loop-again c =
@@ -46,14 +31,5 @@ returns c =
 pub is-marked-spec : {M : Type 1} → statement M
 is-marked-spec =
     tie.close
-    (tie.spec
-    Inv-loop
-    μ-loop
-    shared-slice-read-alone
-    loop-holds
-    mul-alone
-    shared-slice-read-alone-2
-    add-i
-    loop-less
-    loop-again
+    (tie.spec Inv-loop μ-loop (λ c. omega arith) loop-holds (λ c. search needs) (λ c. omega arith) (λ c. search needs) (λ c. omega arith) loop-again
     returns)

@@ -1,0 +1,39 @@
+// Reading a rule from the words of a table. Nothing else takes a rule out of them; `bad_words` judges them one by one.
+//
+// A rule is two words, each a kind and a number: a symbol's number and what stands beside the symbol, or the left and the right half of a pair.
+use layout::KIND;
+use layout::TABLE;
+use layout::TABLE_END;
+use slices::wide;
+ghost use mathlib.Core.Path.{_≡_};
+ghost use Prim.Native.Nat.{_+_, _*_, _<_};
+ghost use lib.ListN.{length};
+ghost use Rattle.layout.specs.Layout.{Readable};
+ghost use Rattle.decoding.specs.Decoding.{ruleAt, ruleIn};
+
+// A symbol's number and what stands beside it; or the left and the right half of a pair.
+pub enum Rule {
+    Symbol(u32, u32),
+    Pair(usize, usize),
+}
+
+// Rule r of a table.
+pub fn rule_of(words: &[u32], r: usize) -> Rule
+    requires { ⌜ 2 * r + 1 < length (now words) ⌝ }
+    ensures { λ x. ⌜ x ≡ ruleAt (now (words .entry)) r ⌝ }
+{
+    let x = words[2 * r];
+    let y = words[2 * r + 1];
+    if x < KIND {
+        return Rule::Symbol(x, y % KIND);
+    }
+    Rule::Pair(wide(x % KIND), wide(y % KIND))
+}
+
+// Rule r of the table that is loaded in the work slice.
+pub fn rule_in(work: &[u32], r: usize) -> Rule
+    requires { ⌜ Readable (now work) r ⌝ }
+    ensures { λ x. ⌜ x ≡ ruleIn (now (work .entry)) r ⌝ }
+{
+    rule_of(&work[TABLE..TABLE_END], r)
+}

@@ -1,0 +1,3 @@
+pub mod Shaping
+pub mod Settling
+pub mod Services
