@@ -1,15 +1,114 @@
-// Runs the services on the papers' samples and edges, which stand in the file `stdin`, and on generated drives and motifs
-// against a naive scanner, and prints what they answer; the file `stdout` has what is expected.
-mod asking;
-mod fields;
-mod printing;
-mod rules;
-mod script;
-
+// The program `trials`: each line of its input has a drive and a motif, with a space between them. The drive is stored and the motif
+// searched, and what the library lists is compared with what the naive scanner lists; the file `stdout` has what is printed.
+use definitions::Answer;
 use libc::STDIN_FILENO;
+use libc::STDOUT_FILENO;
+use naive::scan;
+use slices::equal;
+use slices::wide;
+ghost use Prim.Native.Nat.{_≤_};
+ghost use lib.ListN.{length};
 
 fn main() {
-    let mut input = [0u8; 8192];
+    let mut input = io::buffer();
     let n = io::read_full(STDIN_FILENO, &mut input);
-    script::run(&input[..n]);
+    run(&input[0..n]);
+}
+
+// Tries every line.
+fn run(input: &[u8]) {
+    let mut i = 0;
+    while i < input.len() {
+        let e = end_of(input, i, 10);
+        print(&input[i..e]);
+        try_line(&input[i..e]);
+        i = e + 1;
+    }
+}
+
+// The place of the first byte b from place i on, or the slice's length.
+fn end_of(s: &[u8], i: usize, b: u8) -> usize
+    requires { ⌜ i ≤ length (now s) ⌝ }
+    ensures { λ e. ⌜ (i ≤ e) × (e ≤ length (now (s .entry))) ⌝ }
+{
+    let mut e = i;
+    while e < s.len() {
+        if s[e] == b {
+            return e;
+        }
+        e += 1;
+    }
+    e
+}
+
+// Tries one line: its drive ends at the first space.
+fn try_line(line: &[u8]) {
+    let e = end_of(line, 0, 32);
+    if e < line.len() {
+        let from = e + 1;
+        store(&line[0..e], &line[from..]);
+    }
+    print(b"\n");
+}
+
+// Stores a drive and prints the number of its rules, then searches. A drive of this program has at most 63 samples.
+fn store<'a>(drive: &'a [u8], motif: &'a [u8]) {
+    if 63 < drive.len() {
+        return;
+    }
+    let mut work = [7u32; 16384];
+    let mut table = [7u32; 254];
+    let a = index::build(drive, 0, &mut work, &mut table);
+    let Answer::Done(n) = a else {
+        return;
+    };
+    if n <= 254 {
+        print_number(b" rules ", n / 2);
+        search(&table[0..n], drive, motif);
+    }
+}
+
+// Prints what the library finds, and whether the naive scanner finds the same.
+fn search<'a>(table: &'a [u32], drive: &'a [u8], motif: &'a [u8])
+    requires { ⌜ length (now drive) ≤ 63 ⌝ }
+{
+    let mut work = [7u32; 16384];
+    let mut found = [7u32; 64];
+    let mut scanned = [7u32; 64];
+    let s = index::locate(table, motif, &mut work, &mut found);
+    let a = s.answer;
+    let Answer::Done(n) = a else {
+        print(b" refused");
+        return;
+    };
+    print_places(&found, n);
+    if scan(motif, drive, &mut scanned) == n && equal(&found, &scanned) {
+        print(b" by both");
+    }
+}
+
+// Prints the first n places of a list.
+fn print_places(list: &[u32; 64], n: usize) {
+    print(b" found");
+    let mut i = 0;
+    while i < n {
+        print_number(b" ", wide(at(list, i)));
+        i += 1;
+    }
+}
+
+// Place i of a list, where it has one.
+fn at(list: &[u32; 64], i: usize) -> u32 {
+    if i < 64 { list[i] } else { 0 }
+}
+
+// Prints bytes and a number.
+fn print_number(name: &[u8], n: usize) {
+    print(name);
+    io::print_decimal(STDOUT_FILENO, n as u64);
+}
+
+// Prints bytes.
+fn print(s: &[u8]) {
+    io::write_all(STDOUT_FILENO, s);
 }

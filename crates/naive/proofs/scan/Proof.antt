@@ -1,0 +1,53 @@
+-- `scan` goes over every place of the text. The invariant: the places passed at which the pattern begins stand at the front of the slice.
+use mathlib.Core.Path.{_≡_, refl, _∙_, ap}
+use mathlib.Core.List.{List}
+use Prim.Native.Nat.{ℕ, _+_, _-_, _≤_}
+use native.Mathlib.Omega.{arith}
+use lib.ListN.{length}
+use Rattle.definitions.specs.Words.{placed}
+use Rattle.naive.proofs.Scanning.{noted, none-noted, noted-fewer, one-more, all-noted}
+use Rattle.naive.proofs.scan.Statement.{statement}
+use Rattle.naive.proofs.scan.Tie as tie
+
+abbrev Inv-loop : tie.InvT-loop
+Inv-loop pattern text places₀ i₀ n₀ places i n =
+    (i ≤ length text + 1) × (length places ≡ length places₀) × (n ≡ length (noted pattern text i)) × (places ≡ placed (noted pattern text i) places₀)
+
+abbrev μ-loop : tie.MeasureT-loop
+μ-loop pattern text places₀ i₀ n₀ places i n = length text + 1 - i
+
+loop-holds : tie.Need-loop-holds Inv-loop μ-loop
+loop-holds c =
+    let a = c .before .before .before .args in
+    let none = none-noted (a .pattern .now) (a .text .now) (a .places .now) in
+    (omega arith, refl, none .0, none .1)
+
+noted-requires : tie.Need-noted-requires Inv-loop μ-loop
+noted-requires c κs =
+    let at = c .before .before .before in
+    let a = at .before .before .before .before .args in
+    (omega arith, omega (arith, at .loop .inv, noted-fewer (a .pattern .now) (a .text .now) (at .loop .i)))
+
+loop-again : tie.Need-loop-again Inv-loop μ-loop
+loop-again c =
+    let l = c .before .before in
+    let b = l .before .before in
+    let at = b .before .before in
+    let a = at .before .before .before .before .args in
+    let more = one-more (a .pattern .now) (a .text .now) (a .places .now) (at .loop .i) (at .loop .n) (l .noted .result) (at .loop .places) (l .noted .last .1 .1 .1 .0) (b .begins-at .result) (omega arith) (b .begins-at .ensures) (at .loop .inv .2) (at .loop .inv .3) (l .noted .ensures .0) (l .noted .ensures .1) in
+    (omega arith, l .noted .kept .1 .1 .1 .0 ∙ at .loop .inv .1, more .0, more .1)
+
+same-length : tie.Need-same-length Inv-loop μ-loop
+same-length c = c .before .loop .inv .1
+
+returns : tie.Need-returns Inv-loop μ-loop
+returns c =
+    let at = c .before in
+    let a = at .before .before .before .before .args in
+    let all = all-noted (a .pattern .now) (a .text .now) (at .loop .i) (omega arith) in
+    (at .loop .inv .2 ∙ ap length all, at .loop .inv .3 ∙ ap (λ (l : List ℕ). placed l (a .places .now)) all)
+
+pub scan-spec : {M : Type 1} → statement M
+scan-spec =
+    tie.close
+    (tie.spec Inv-loop μ-loop loop-holds (λ c κs. (omega arith, omega arith)) noted-requires (λ c. omega arith) (λ c. omega arith) loop-again same-length returns)

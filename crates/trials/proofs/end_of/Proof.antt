@@ -1,0 +1,18 @@
+-- `end_of` stays in the slice.
+use Prim.Native.Nat.{_≤_, _-_}
+use native.Mathlib.Omega.{arith}
+use lib.ListN.{length}
+use Rattle.trials.proofs.end_of.Statement.{statement}
+use Rattle.trials.proofs.end_of.Tie as tie
+
+abbrev Inv-loop : tie.InvT-loop
+Inv-loop s i b e₀ e = (i ≤ e) × (e ≤ length s)
+
+abbrev μ-loop : tie.MeasureT-loop
+μ-loop s i b e₀ e = length s - e
+
+pub end-of-spec : {M : Type 1} → statement M
+end-of-spec =
+    tie.close
+    (tie.spec Inv-loop μ-loop (λ c. (omega arith, omega arith)) (λ c. omega arith) (λ c. (omega arith, omega arith)) (λ c. omega arith) (λ c. omega arith)
+    (λ c. (omega arith, omega arith)) (λ c. (omega arith, omega arith)))
