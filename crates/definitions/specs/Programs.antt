@@ -17,11 +17,16 @@ unfoldable pub digits : ℕ → ℕ → List ℕ
 digits zero n = []
 digits (suc k) n = digits k (n / 10) ++ ((48 + n % 10) ∷ [])
 
--- how many digits a number below 10,000 has
-unfoldable pub digitCount : ℕ → ℕ
-digitCount n = cond (ltb n 10) 1 (cond (ltb n 100) 2 (cond (ltb n 1000) 3 4))
+-- how many decimal digits n has, if not more than k + 1
+unfoldable pub digitsUpTo : ℕ → ℕ → ℕ
+digitsUpTo zero n = 1
+digitsUpTo (suc k) n = cond (ltb n 10) 1 (suc (digitsUpTo k (n / 10)))
 
--- a number below 10,000 in decimal, without leading zeros
+-- how many a number of up to ten digits has
+unfoldable pub digitCount : ℕ → ℕ
+digitCount n = digitsUpTo 9 n
+
+-- such a number in decimal, without leading zeros
 unfoldable pub decimal : ℕ → List ℕ
 decimal n = digits (digitCount n) n
 

@@ -19,7 +19,7 @@ use Rattle.definitions.specs.Table.{rankOf, byteOf, numberOfRank, rankOf
 use Rattle.definitions.specs.Occurrences.{occurrences, notGreaterAtDifference, isLive, liveCuts, patternCuts, straddles, straddling, cutIn, cutAt}
 use Rattle.definitions.specs.Services.{Numbers, Outcome, numbersOf, readingOutcome, searchOutcome, Service, firstMet, outcome, outcomeOf, cleared, slicesAfter, sampleOrder, tableChecks, patternChecks, buildService, checkService, readService, extractService, countService, locateService, cutsService}
 use Rattle.definitions.specs.Replies.{replyNumbers, searchNumbers}
-use Rattle.definitions.specs.Programs.{digits, digitCount, decimal, line, named, decimalLines, refusedLine, printed, motifOf, driveOf, foundLines, motifOutput}
+use Rattle.definitions.specs.Programs.{digits, digitsUpTo, digitCount, decimal, line, named, decimalLines, refusedLine, printed, motifOf, driveOf, foundLines, motifOutput}
 
 abbrev pub a : ℕ
 a = 97
@@ -73,8 +73,10 @@ pub data Sample : Type 0 where
   ends : Service → ℕ → ℕ → ℕ → ℕ → Sample
   -- the slice that is lent last holds this afterwards
   leaves : Service → List ℕ → Sample
-  -- whether the work slice of 16,385 words 7, which is lent first, is cleared, its first 16,384 words alone
+  -- whether the work slice of words 7, which is lent first, is cleared
   clears : Service → Bool → Sample
+  -- the slice, cleared, has this as its first word and its words from 16,383 on
+  clearing : List ℕ → List ℕ → Sample
   -- the answer stands for this number, place and count
   answers : Answer → ℕ → ℕ → ℕ → Sample
   -- the same of an answer to reading, with the chair number
@@ -90,6 +92,11 @@ pub data Sample : Type 0 where
 
 unfoldable pub last : List (List ℕ) → List ℕ
 last slices = getD slices (length slices - 1) []
+
+-- the first word of a slice, and those from word 16,383 on
+unfoldable pub edges : List ℕ → List ℕ
+edges [] = []
+edges (x ∷ l) = x ∷ drop 16382 l
 
 -- number, place, count and chair number, of an outcome too
 unfoldable pub four : Numbers → List ℕ
@@ -115,9 +122,8 @@ holds (joins text r p places) =
 holds (table text chair t) = same (tableOf sampleOrder text chair) t
 holds (ends s number place count chair) = same (parts (outcome s)) (number ∷ place ∷ count ∷ chair ∷ [])
 holds (leaves s after) = same (last (slicesAfter s)) after
-holds (clears s b) =
-    let w = getD (slicesAfter s) 0 [] in
-    eqb (length w) 16385 && (eqb (getD w 0 7) (cond b 0 7) && (eqb (getD w 16383 7) (cond b 0 7) && eqb (getD w 16384 7) 7))
+holds (clears s b) = eqb (getD (getD (slicesAfter s) 0 []) 0 7) (cond b 0 7)
+holds (clearing work l) = same (edges (cleared work)) l
 holds (answers r number place count) = same (parts (outcomeOf r)) (number ∷ place ∷ count ∷ 0 ∷ [])
 holds (reads r number place count chair) = same (parts (readingOutcome r)) (number ∷ place ∷ count ∷ chair ∷ [])
 holds (searches s number place count) = same (parts (searchOutcome s)) (number ∷ place ∷ count ∷ 0 ∷ [])
@@ -199,14 +205,15 @@ samples =
     ∷ leaves (locateService sampleOrder ofAbab (a ∷ b ∷ []) room (replicate 1 7)) (7 ∷ [])
     ∷ leaves (locateService sampleOrder ofAbab (a ∷ b ∷ []) room (replicate 3 7)) (0 ∷ 2 ∷ 7 ∷ [])
     ∷ leaves (cutsService sampleOrder (a ∷ a ∷ b ∷ a ∷ []) (replicate 3 7)) (1 ∷ 3 ∷ 7 ∷ [])
-    ∷ clears (checkService sampleOrder ofAbab (room ++ 7 ∷ [])) true
-    ∷ clears (checkService sampleOrder twoRules (room ++ 7 ∷ [])) true
-    ∷ clears (checkService sampleOrder (drop 2 ofAbab) (room ++ 7 ∷ [])) false
-    ∷ clears (checkService sampleOrder [] (room ++ 7 ∷ [])) false
+    ∷ clearing (room ++ 7 ∷ []) (0 ∷ 0 ∷ 7 ∷ [])
+    ∷ clears (checkService sampleOrder ofAbab room) true
+    ∷ clears (checkService sampleOrder twoRules room) true
+    ∷ clears (checkService sampleOrder (drop 2 ofAbab) room) false
+    ∷ clears (checkService sampleOrder [] room) false
     ∷ leaves (checkService sampleOrder ofAbab (7 ∷ [])) (7 ∷ [])
-    ∷ clears (countService sampleOrder ofAbab [] (room ++ 7 ∷ [])) false
-    ∷ clears (extractService sampleOrder ofAbab 4 1 (room ++ 7 ∷ []) []) true
-    ∷ clears (buildService sampleOrder abab 40 (room ++ 7 ∷ []) (replicate 11 7)) true
+    ∷ clears (countService sampleOrder ofAbab [] room) false
+    ∷ clears (extractService sampleOrder ofAbab 4 1 room []) true
+    ∷ clears (buildService sampleOrder abab 40 room (replicate 11 7)) true
     ∷ answers (Done 5) 0 0 5
     ∷ answers (Refused 6 5) 6 5 0
     ∷ reads (reading.Done 5 40) 0 0 5 40
@@ -222,6 +229,11 @@ samples =
     ∷ spells 999 (57 ∷ 57 ∷ 57 ∷ [])
     ∷ spells 1000 (49 ∷ 48 ∷ 48 ∷ 48 ∷ [])
     ∷ spells 2304 (50 ∷ 51 ∷ 48 ∷ 52 ∷ [])
+    ∷ spells 9999 (57 ∷ 57 ∷ 57 ∷ 57 ∷ [])
+    ∷ spells 10000 (49 ∷ 48 ∷ 48 ∷ 48 ∷ 48 ∷ [])
+    ∷ spells 65535 (54 ∷ 53 ∷ 53 ∷ 51 ∷ 53 ∷ [])
+    ∷ spells 1000000000 (49 ∷ 48 ∷ 48 ∷ 48 ∷ 48 ∷ 48 ∷ 48 ∷ 48 ∷ 48 ∷ 48 ∷ [])
+    ∷ spells 2147483647 (50 ∷ 49 ∷ 52 ∷ 55 ∷ 52 ∷ 56 ∷ 51 ∷ 54 ∷ 52 ∷ 55 ∷ [])
     ∷ prints (a ∷ b ∷ 10 ∷ abab) (foundIn 6 2 (48 ∷ 10 ∷ 50 ∷ 10 ∷ []))
     ∷ prints [] (refusedWith 2)
     ∷ prints (10 ∷ replicate 2048 a) (refusedWith 1)
@@ -236,13 +248,13 @@ samples =
     ∷ ends (countService sampleOrder [] (replicate 2047 a) []) 4 0 0 0
     ∷ ends (locateService sampleOrder [] (replicate 2048 a) [] []) 3 0 0 0
     ∷ ends (cutsService sampleOrder (replicate 2048 a) []) 3 0 0 0
-    ∷ clears (buildService sampleOrder (replicate 2048 a) 40 (room ++ 7 ∷ []) []) false
-    ∷ clears (countService sampleOrder [] (replicate 2048 a) (room ++ 7 ∷ [])) false
+    ∷ clears (buildService sampleOrder (replicate 2048 a) 40 room []) false
+    ∷ clears (countService sampleOrder [] (replicate 2048 a) room) false
     ∷ ends (checkService sampleOrder (replicate 4610 0) room) 5 0 0 0
     ∷ ends (checkService sampleOrder (replicate 4608 0) room) 6 1 0 0
     ∷ []
 
 -- every sample holds
 pub samples-hold : all samples ≡ true
-unfolding holds all samples four parts numbersOf readingOutcome searchOutcome replyNumbers searchNumbers every below least placed same begins lexlt lyndon cutOf leftOf rightOf word split lyndonTree indexOf meet visit order ruleOf rulesOf rankOf byteOf numberOfRank rankOfNumber marked wordOf kindOf numberOf ruleWords words tableOf badFirst badSecond badWord stringOf strings ruleString isPair leftHalf rightHalf spelled textOf chairOf isDrive isChair isTable occurrences notGreaterAtDifference isLive liveCuts patternCuts straddles straddling cutIn cutAt firstMet outcome outcomeOf cleared slicesAfter last tableChecks patternChecks buildService checkService readService extractService countService locateService cutsService digits digitCount decimal line named decimalLines refusedLine printed motifOf driveOf foundLines motifOutput
+unfolding edges holds all samples four parts numbersOf readingOutcome searchOutcome replyNumbers searchNumbers every below least placed same begins lexlt lyndon cutOf leftOf rightOf word split lyndonTree indexOf meet visit order ruleOf rulesOf rankOf byteOf numberOfRank rankOfNumber marked wordOf kindOf numberOf ruleWords words tableOf badFirst badSecond badWord stringOf strings ruleString isPair leftHalf rightHalf spelled textOf chairOf isDrive isChair isTable occurrences notGreaterAtDifference isLive liveCuts patternCuts straddles straddling cutIn cutAt firstMet outcome outcomeOf cleared slicesAfter last tableChecks patternChecks buildService checkService readService extractService countService locateService cutsService digits digitsUpTo digitCount decimal line named decimalLines refusedLine printed motifOf driveOf foundLines motifOutput
 samples-hold = refl

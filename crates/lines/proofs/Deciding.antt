@@ -14,7 +14,7 @@ use Rattle.definitions.specs.Services.{done, refused, Check, firstMet, outcomeO
 use Rattle.definitions.specs.Programs.{refusedLine, printed}
 use Rattle.lists.specs.Decisions.{First, Passed, decide, first-decides, passed-all}
 use Rattle.lists.specs.Serving.{by}
-use Rattle.lines.specs.Lines.{refusal, refusalNumber}
+use Rattle.lines.specs.Lines.{refusal}
 
 -- what stands at the front of a slice fits in it
 pub front-fits : (l old new : List ℕ) → new ≡ placed l old → length l ≤ length new
@@ -37,15 +37,12 @@ module _ (checks : List Check) (l old new : List ℕ) (r : Answer) (v : Serves (
             let no : _≡_ {A = ℕ} 0 1 = cc in
             absurd (omega arith)
 
-    -- with what is printed where none refuses; the checks' numbers are small
-    pub refusal-printed : (m output : List ℕ) → output ≡ printed checks m → firstMet checks (λ c. c .number) 0 < 10000
-        → (refusalNumber r < 10000) × (refusal r ≡ output)
-    unfolding refusal refusalNumber printed refusedLine
-    refusal-printed m output g small =
-        let (c, d, f) = told in (
-          omega (arith, ap refusalNumber q, first-decides c (λ c. c .number) 0 d),
-          ap refusal q ∙ sym (g ∙ first-decides c refusedLine m d ∙ ap (λ (k : ℕ). refusal (Refused k 0)) f),
-        )
+    -- with what is printed where none refuses
+    pub refusal-printed : (m output : List ℕ) → output ≡ printed checks m → refusal r ≡ output
+    unfolding refusal printed refusedLine
+    refusal-printed m output g =
+        let (c, d, f) = told in
+        ap refusal q ∙ sym (g ∙ first-decides c refusedLine m d ∙ ap (λ (k : ℕ). refusal (Refused k 0)) f)
 
   module _ (k : ℕ) (q : r ≡ Done k) where
     passed : Passed checks × (k ≡ length l)

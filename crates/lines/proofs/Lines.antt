@@ -8,9 +8,10 @@ use native.Mathlib.Numerals.{add-one}
 use lib.ListN.{length, take, drop, getD, set, length-append, length-take}
 use lib.Seq.{drop-at, set-split, take-suc, length-take-le}
 use lib.Dec.{ltb}
+use borrow.Author.Tests.{lt-ltb, le-ltb}
 use Rattle.definitions.specs.Words.{placed}
 use Rattle.lists.specs.Lists.{placed-none, placed-length, placed-more, placed-both}
-use Rattle.definitions.specs.Programs.{digits, digitCount, decimal, line, named, decimalLines}
+use Rattle.definitions.specs.Programs.{digits, digitsUpTo, digitCount, decimal, line, named, decimalLines}
 
 -- ---- lengths
 
@@ -19,28 +20,54 @@ unfolding digits
 digits-length zero n = refl
 digits-length (suc k) n = length-append (digits k (n / 10)) ((48 + n % 10) ∷ []) ∙ omega (arith, digits-length k (n / 10))
 
-pub count-range : (n : ℕ) → (0 < digitCount n) × (digitCount n ≤ 4)
-unfolding digitCount
-count-range n = go (ltb n 10) (ltb n 100) (ltb n 1000)
+digits-range : (k n : ℕ) → (0 < digitsUpTo k n) × (digitsUpTo k n ≤ suc k)
+unfolding digitsUpTo
+digits-range zero n = (omega arith, omega arith)
+digits-range (suc k) n = go (ltb n 10) (digits-range k (n / 10))
   where
-    go : (a b c : Bool) → (0 < cond a 1 (cond b 2 (cond c 3 4))) × (cond a 1 (cond b 2 (cond c 3 4)) ≤ 4)
-    go true b c = (omega arith, omega arith)
-    go false true c = (omega arith, omega arith)
-    go false false true = (omega arith, omega arith)
-    go false false false = (omega arith, omega arith)
+    go : (b : Bool) → (0 < digitsUpTo k (n / 10)) × (digitsUpTo k (n / 10) ≤ suc k)
+        → (0 < cond b 1 (suc (digitsUpTo k (n / 10)))) × (cond b 1 (suc (digitsUpTo k (n / 10))) ≤ suc (suc k))
+    go true h = (omega arith, omega arith)
+    go false h = (omega arith, omega arith)
+
+pub count-range : (n : ℕ) → (0 < digitCount n) × (digitCount n ≤ 10)
+unfolding digitCount
+count-range n = digits-range 9 n
+
+-- where n - 1 digits are counted, what is left of the number has up to 10 - n + 1
+pub count-starts : (m : ℕ) → digitCount m + 1 ≡ 1 + digitsUpTo (10 - 1) m
+unfolding digitCount
+count-starts m = omega arith
+
+pub count-small : (k rest : ℕ) → rest < 10 → digitsUpTo k rest ≡ 1
+unfolding digitsUpTo
+count-small zero rest h = refl
+count-small (suc k) rest h = rw (lt-ltb rest 10 h)
+
+pub count-more : (n rest : ℕ) → n < 10 → 10 ≤ rest → digitsUpTo (10 - n) rest ≡ suc (digitsUpTo (10 - (n + 1)) (rest / 10))
+unfolding digitsUpTo
+count-more n rest h l =
+    let e : 10 - n ≡ suc (10 - (n + 1)) = omega arith in
+    ap (λ (k : ℕ). digitsUpTo k rest) e ∙ (rw (le-ltb rest 10 l))
+
+pub count-ends : (n rest : ℕ) → 10 ≤ n → digitsUpTo (10 - n) rest ≡ 1
+unfolding digitsUpTo
+count-ends n rest h =
+    let e : 10 - n ≡ 0 = omega arith in
+    ap (λ (k : ℕ). digitsUpTo k rest) e
 
 line-length : (n : ℕ) → length (line (decimal n)) ≡ digitCount n + 1
 unfolding line decimal
 line-length n = length-append (digits (digitCount n) n) (10 ∷ []) ∙ ap (λ (k : ℕ). k + 1) (digits-length (digitCount n) n)
 
-pub line-most : (n : ℕ) → length (line (decimal n)) ≤ 5
+pub line-most : (n : ℕ) → length (line (decimal n)) ≤ 11
 line-most n = omega (arith, line-length n, count-range n .1)
 
-pub named-most : (name : List ℕ) (n : ℕ) → length (named name n) ≤ length name + 5
+pub named-most : (name : List ℕ) (n : ℕ) → length (named name n) ≤ length name + 11
 unfolding named
 named-most name n = omega (arith, length-append name (line (decimal n)), line-most n)
 
-pub lines-most : (l : List ℕ) → length (decimalLines l) ≤ 5 * length l
+pub lines-most : (l : List ℕ) → length (decimalLines l) ≤ 11 * length l
 unfolding decimalLines
 lines-most [] = omega arith
 lines-most (n ∷ l) = omega (arith, length-append (line (decimal n)) (decimalLines l), line-most n, lines-most l)
@@ -92,7 +119,7 @@ lines-more l i h =
 
 -- ---- what the functions leave
 
-pub line-stored : (n k : ℕ) (old out : List ℕ) → 5 ≤ length old → k ≡ digitCount n → out ≡ placed (digits k n) old
+pub line-stored : (n k : ℕ) (old out : List ℕ) → 11 ≤ length old → k ≡ digitCount n → out ≡ placed (digits k n) old
     → (k + 1 ≡ length (line (decimal n))) × (set out k 10 ≡ placed (line (decimal n)) old)
 unfolding line decimal
 line-stored n k old out h e f =
@@ -110,7 +137,7 @@ pub both-stored : (u v old w z : List ℕ) (n m : ℕ) → length u + length v �
 both-stored u v old w z n m h e f g i =
     (omega (arith, length-append u v), placed-both u v old w z n e h f i)
 
-pub named-stored : (name : List ℕ) (number : ℕ) (old : List ℕ) (n m : ℕ) (w z : List ℕ) → length name + 5 ≤ length old
+pub named-stored : (name : List ℕ) (number : ℕ) (old : List ℕ) (n m : ℕ) (w z : List ℕ) → length name + 11 ≤ length old
     → n ≡ length name → w ≡ placed name old → m ≡ length (line (decimal number)) → z ≡ placed (line (decimal number)) (take (length w - n) (drop n w))
     → (n + m ≡ length (named name number)) × (take n w ++ (z ++ drop (length w - n) (drop n w)) ≡ placed (named name number) old)
 unfolding named
@@ -121,10 +148,10 @@ pub lines-none : (l old : List ℕ) → (0 ≡ length (decimalLines (take 0 l)))
 unfolding decimalLines
 lines-none l old = (refl, sym (placed-none old))
 
-pub front-most : (l : List ℕ) (i : ℕ) → length (decimalLines (take i l)) ≤ 5 * i
+pub front-most : (l : List ℕ) (i : ℕ) → length (decimalLines (take i l)) ≤ 11 * i
 front-most l i = omega (arith, lines-most (take i l), length-take i l)
 
-pub lines-stored : (l old w z : List ℕ) (i n m x : ℕ) → i < length l → 5 * length l ≤ length old → x ≡ getD l i 0
+pub lines-stored : (l old w z : List ℕ) (i n m x : ℕ) → i < length l → 11 * length l ≤ length old → x ≡ getD l i 0
     → n ≡ length (decimalLines (take i l)) → w ≡ placed (decimalLines (take i l)) old
     → m ≡ length (line (decimal x)) → z ≡ placed (line (decimal x)) (take (length w - n) (drop n w))
     → (length (take n w ++ (z ++ drop (length w - n) (drop n w))) ≡ length old)

@@ -1,17 +1,17 @@
 // Lines of text gathered in a lent slice: each function writes at the front of `out`, leaves the rest and answers how many bytes it wrote, so
-// that the caller lends on the rest. A number is below 10,000 and takes at most 4 digits.
+// that the caller lends on the rest. A number takes at most ten digits.
 use definitions::Answer;
 use slices::wide;
 ghost use mathlib.Core.Path.{_≡_};
-ghost use Prim.Native.Nat.{_+_, _*_, _≤_, _<_};
+ghost use Prim.Native.Nat.{_+_, _*_, _≤_};
 ghost use lib.ListN.{length};
 ghost use Rattle.definitions.specs.Words.{placed};
 ghost use Rattle.definitions.specs.Programs.{digits, digitCount, decimal, line, named, decimalLines};
-ghost use Rattle.lines.specs.Lines.{Small, refusal, refusalNumber};
+ghost use Rattle.lines.specs.Lines.{refusal};
 
 // Numbers, each on a line.
 pub fn put_decimal_lines(numbers: &[u32], out: &mut [u8]) -> usize
-    requires { ⌜ Small (now numbers) × (5 * length (now numbers) ≤ length (now out)) ⌝ }
+    requires { ⌜ 11 * length (now numbers) ≤ length (now out) ⌝ }
     ensures { λ n. ⌜ n ≡ length (decimalLines (now (numbers .entry))) ⌝ }
     ensures { λ _. ⌜ now (out .exit) ≡ placed (decimalLines (now (numbers .entry))) (now (out .entry)) ⌝ }
 {
@@ -26,7 +26,7 @@ pub fn put_decimal_lines(numbers: &[u32], out: &mut [u8]) -> usize
 
 // The line of a refusal; nothing where the answer is none.
 pub fn put_refusal(answer: Answer, out: &mut [u8]) -> usize
-    requires { ⌜ (refusalNumber answer < 10000) × (13 ≤ length (now out)) ⌝ }
+    requires { ⌜ 19 ≤ length (now out) ⌝ }
     ensures { λ n. ⌜ n ≡ length (refusal answer) ⌝ }
     ensures { λ _. ⌜ now (out .exit) ≡ placed (refusal answer) (now (out .entry)) ⌝ }
 {
@@ -38,7 +38,7 @@ pub fn put_refusal(answer: Answer, out: &mut [u8]) -> usize
 
 // A line that begins with a name and then has a number.
 pub fn put_named(name: &[u8], number: usize, out: &mut [u8]) -> usize
-    requires { ⌜ (number < 10000) × (length (now name) + 5 ≤ length (now out)) ⌝ }
+    requires { ⌜ length (now name) + 11 ≤ length (now out) ⌝ }
     ensures { λ n. ⌜ n ≡ length (named (now (name .entry)) number) ⌝ }
     ensures { λ _. ⌜ now (out .exit) ≡ placed (named (now (name .entry)) number) (now (out .entry)) ⌝ }
 {
@@ -63,7 +63,7 @@ fn put_bytes(bytes: &[u8], out: &mut [u8]) -> usize
 
 // A number on a line.
 fn put_decimal_line(number: usize, out: &mut [u8]) -> usize
-    requires { ⌜ (number < 10000) × (5 ≤ length (now out)) ⌝ }
+    requires { ⌜ 11 ≤ length (now out) ⌝ }
     ensures { λ n. ⌜ n ≡ length (line (decimal number)) ⌝ }
     ensures { λ _. ⌜ now (out .exit) ≡ placed (line (decimal number)) (now (out .entry)) ⌝ }
 {
@@ -73,20 +73,20 @@ fn put_decimal_line(number: usize, out: &mut [u8]) -> usize
     n + 1
 }
 
-// How many digits a number has.
+// How many digits a number has, ten at most.
 fn digit_count(number: usize) -> usize
     ensures { λ n. ⌜ n ≡ digitCount number ⌝ }
 {
-    if number < 10 {
-        return 1;
+    let mut rest = number;
+    let mut n = 1;
+    while n < 10 {
+        if rest < 10 {
+            return n;
+        }
+        rest = rest / 10;
+        n += 1;
     }
-    if number < 100 {
-        return 2;
-    }
-    if number < 1000 {
-        return 3;
-    }
-    4
+    n
 }
 
 // The last digits of a number, as many as `count` says: the last is written first.

@@ -38,11 +38,9 @@ part-put-decimal-line-start c =
 
 put-decimal-line-requires : tie.Need-put-decimal-line-requires Inv-loop μ-loop
 put-decimal-line-requires c κs =
-    let w = c .before in
-    let at = w .before .before .before in
+    let at = c .before .before .before .before in
     let s = at .before .before .before in
-    let small = s .pre .0 (at .loop .i) (omega arith) in
-    (omega (arith, w .wide .ensures, small), simp (length-take, length-drop) (omega (arith, front-most (s .args .numbers .now) (at .loop .i), at .loop .inv .2)))
+    simp (length-take, length-drop) (omega (arith, front-most (s .args .numbers .now) (at .loop .i), at .loop .inv .2))
 
 add-n : tie.Need-add-n Inv-loop μ-loop
 add-n c =
@@ -56,7 +54,7 @@ loop-again c =
     let l = c .before .before in
     let at = l .before .before .before .before .before in
     let s = at .before .before .before in
-    let more = lines-stored (s .args .numbers .now) (s .args .out .now) (at .loop .out) (l .put-decimal-line .last .1 .0) (at .loop .i) (at .loop .n) (l .put-decimal-line .result) (l .before .before .wide .result) (omega arith) (s .pre .1) (l .before .before .wide .ensures) (at .loop .inv .2) (at .loop .inv .3) (l .put-decimal-line .ensures .0) (l .put-decimal-line .ensures .1) in
+    let more = lines-stored (s .args .numbers .now) (s .args .out .now) (at .loop .out) (l .put-decimal-line .last .1 .0) (at .loop .i) (at .loop .n) (l .put-decimal-line .result) (l .before .before .wide .result) (omega arith) (s .pre) (l .before .before .wide .ensures) (at .loop .inv .2) (at .loop .inv .3) (l .put-decimal-line .ensures .0) (l .put-decimal-line .ensures .1) in
     (omega arith, more .0, more .1, more .2)
 
 same-length : tie.Need-same-length Inv-loop μ-loop

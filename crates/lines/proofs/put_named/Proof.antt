@@ -17,7 +17,7 @@ returns c =
     let l = c .before .before in
     let b = l .before .before .before .before in
     let s = b .before .before .before .before in
-    named-stored (s .args .name .now) (s .args .number) (s .args .out .now) (b .put-bytes .result) (l .put-decimal-line .result) (b .put-bytes .last .1 .0) (l .put-decimal-line .last .1 .0) (s .pre .1) (b .put-bytes .ensures .0) (b .put-bytes .ensures .1) (l .put-decimal-line .ensures .0) (l .put-decimal-line .ensures .1)
+    named-stored (s .args .name .now) (s .args .number) (s .args .out .now) (b .put-bytes .result) (l .put-decimal-line .result) (b .put-bytes .last .1 .0) (l .put-decimal-line .last .1 .0) (s .pre) (b .put-bytes .ensures .0) (b .put-bytes .ensures .1) (l .put-decimal-line .ensures .0) (l .put-decimal-line .ensures .1)
 
 pub put-named-spec : {M : Type 1} → statement M
 put-named-spec =

@@ -2,13 +2,12 @@
 use mathlib.Core.Path.{_≡_, sym, _∙_, ap}
 use mathlib.Core.List.{List}
 use Prim.Native.Nat.{ℕ}
-use native.Mathlib.Omega.{arith}
 use lib.ListN.{length}
 use borrow.Author.Needs.{needs}
 use Rattle.definitions.specs.Words.{placed}
 use Rattle.definitions.specs.Programs.{named, refusedName}
 use Rattle.lists.specs.Lists.{placed-none}
-use Rattle.lines.specs.Lines.{refusal, refusalNumber}
+use Rattle.lines.specs.Lines.{refusal}
 use Rattle.lines.proofs.put_refusal.Statement.{statement}
 use Rattle.lines.proofs.put_refusal.Tie as tie
 
@@ -18,14 +17,6 @@ returns c =
     let a = c .before .before .before .args in
     let none = ap refusal (c .enum-told .given .1) in
     (sym (ap length none), sym (ap (λ (l : List ℕ). placed l (a .out .now)) none ∙ placed-none (a .out .now)))
-
-put-named-requires : tie.Need-put-named-requires
-unfolding refusalNumber
-put-named-requires c κs =
-    let w = c .before in
-    let k = w .before .before in
-    let s = k .before .before .before .before in
-    (omega (arith, w .wide .ensures, ap refusalNumber (k .before .answer .given .1), s .pre .0), omega arith)
 
 returns-2 : tie.Need-returns-2
 unfolding refusal
@@ -40,5 +31,5 @@ returns-2 c =
 pub put-refusal-spec : {M : Type 1} → statement M
 put-refusal-spec =
     tie.close
-    (tie.spec (λ c. search needs) (λ c. search needs) returns (λ c. search needs) (λ c κs. search needs) put-named-requires (λ c. search needs)
+    (tie.spec (λ c. search needs) (λ c. search needs) returns (λ c. search needs) (λ c κs. search needs) (λ c κs. search needs) (λ c. search needs)
     returns-2)

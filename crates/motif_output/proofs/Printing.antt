@@ -14,9 +14,9 @@ use Rattle.definitions.specs.Table.{tableOf, ruleCount}
 use Rattle.definitions.specs.Occurrences.{occurrences}
 use Rattle.definitions.specs.Services.{Check, firstMet, Serves, Answers, textTooLong, sampleOrder, patternChecks}
 use Rattle.definitions.specs.Programs.{named, decimalLines, refusedLine, printed, motifOf, driveOf, inputTooLong, rulesName, foundName, foundLines, motifOutput}
-use Rattle.lines.specs.Lines.{refusal, refusalNumber}
+use Rattle.lines.specs.Lines.{refusal}
 use Rattle.lines.proofs.Lines.{named-most, lines-most}
-use Rattle.motif.specs.Steps.{driveStep, motifStep, searchOutput, Built}
+use Rattle.motif_output.specs.Steps.{driveStep, motifStep, searchOutput, Built}
 use Rattle.lines.proofs.Deciding.{refusal-printed, success-printed, success-written, success-passed}
 
 -- of a longer input 4,096 bytes are read, and the same is printed
@@ -25,15 +25,9 @@ unfolding motifOutput printed firstMet refusedLine
 read-enough o input h =
     rw (lt-ltb 4095 (length input) h, lt-ltb 4095 (length (take 4096 input)) (simp length-take (omega arith)))
 
-pub found-most : (l : List ℕ) → length (foundLines l) ≤ 11 + 5 * length l
+pub found-most : (l : List ℕ) → length (foundLines l) ≤ 17 + 11 * length l
 unfolding foundLines
 found-most l = omega (arith, length-append (named foundName (length l)) (decimalLines l), named-most foundName (length l), lines-most l)
-
--- two numbers of refusals, or none
-small : (a b : Bool) (m n : ℕ) → m < 10000 → n < 10000 → cond a m (cond b n 0) < 10000
-small true b m n h k = h
-small false true m n h k = k
-small false false m n h k = omega arith
 
 -- ---- the drive
 
@@ -48,11 +42,10 @@ module _ (input : List ℕ) (r : Answer) (old table : List ℕ) (v : Serves (dri
   unfolding motifOutput searchOutput printed firstMet
   output = refl
 
-  pub drive-refused : (x y : ℕ) → r ≡ Refused x y → (refusalNumber r < 10000) × (refusal r ≡ motifOutput sampleOrder input)
+  pub drive-refused : (x y : ℕ) → r ≡ Refused x y → refusal r ≡ motifOutput sampleOrder input
   unfolding driveStep firstMet
   drive-refused x y q =
       refusal-printed driveChecks t old table r v x y q (searchOutput sampleOrder input) (motifOutput sampleOrder input) output
-      (small (ltb 4095 (length input)) (ltb 2047 (length (driveOf input))) 1 1 (omega arith) (omega arith))
 
   short : (a b : Bool) → cond a true (cond b true false) ≡ false → b ≡ false
   short true b e = absurd (true≢false e)
@@ -83,11 +76,10 @@ module _ (input : List ℕ) (r : Answer) (old positions : List ℕ) (v : Serves 
   unfolding searchOutput
   found-output = refl
 
-  pub motif-refused : (x y : ℕ) → r ≡ Refused x y → (refusalNumber r < 10000) × (refusal r ≡ searchOutput sampleOrder input)
+  pub motif-refused : (x y : ℕ) → r ≡ Refused x y → refusal r ≡ searchOutput sampleOrder input
   unfolding motifStep patternChecks firstMet
   motif-refused x y q =
       refusal-printed (patternChecks (motifOf input)) finds old positions r v x y q l (searchOutput sampleOrder input) found-output
-      (small (eqb (length (motifOf input)) 0) (ltb 2047 (length (motifOf input))) 2 3 (omega arith) (omega arith))
 
   pub motif-done : (k : ℕ) → r ≡ Done k
       → (k ≤ length positions) × (take (k - 0) positions ≡ occurrences (motifOf input) (driveOf input)) × (l ≡ searchOutput sampleOrder input)

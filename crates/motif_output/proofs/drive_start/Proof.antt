@@ -1,8 +1,8 @@
 -- `drive_start` steps over byte 10, where there is one.
 use borrow.Author.Needs.{needs}
-use Rattle.motif.proofs.Splitting.{behind-ten, at-end}
-use Rattle.motif.proofs.drive_start.Statement.{statement}
-use Rattle.motif.proofs.drive_start.Tie as tie
+use Rattle.motif_output.proofs.Splitting.{behind-ten, at-end}
+use Rattle.motif_output.proofs.drive_start.Statement.{statement}
+use Rattle.motif_output.proofs.drive_start.Tie as tie
 
 returns : tie.Need-returns
 returns c =

@@ -5,10 +5,10 @@ use lib.ListN.{take}
 use borrow.Author.Needs.{needs}
 use Rattle.definitions.specs.Services.{searchOutcome, sampleOrder}
 use Rattle.definitions.specs.Programs.{driveOf}
-use Rattle.motif.proofs.Splitting.{motif-taken, motif-fits, drive-bytes}
-use Rattle.motif.proofs.Stepping.{stored, motif-located}
-use Rattle.motif.proofs.locate_motif.Statement.{statement}
-use Rattle.motif.proofs.locate_motif.Tie as tie
+use Rattle.motif_output.proofs.Splitting.{motif-taken, motif-fits, drive-bytes}
+use Rattle.motif_output.proofs.Stepping.{stored, motif-located}
+use Rattle.motif_output.proofs.locate_motif.Statement.{statement}
+use Rattle.motif_output.proofs.locate_motif.Tie as tie
 
 part-locate-end : tie.Need-part-locate-end
 part-locate-end c =

@@ -4,8 +4,8 @@ use lib.ListN.{length, length-take, length-drop}
 use borrow.Author.Needs.{needs}
 use Rattle.definitions.specs.Programs.{named, decimalLines, foundName, foundLines}
 use Rattle.lines.proofs.Lines.{named-most, lines-most, both-stored}
-use Rattle.motif.proofs.found_lines.Statement.{statement}
-use Rattle.motif.proofs.found_lines.Tie as tie
+use Rattle.motif_output.proofs.found_lines.Statement.{statement}
+use Rattle.motif_output.proofs.found_lines.Tie as tie
 
 sub-put-decimal-lines : tie.Need-sub-put-decimal-lines
 sub-put-decimal-lines c =
@@ -23,7 +23,7 @@ put-decimal-lines-requires : tie.Need-put-decimal-lines-requires
 put-decimal-lines-requires c κs =
     let p = c .before .before .before in
     let s = p .before .before .before .before .before in
-    (s .pre .0, simp (length-take, length-drop) (omega (arith, p .put-named .ensures .0, p .put-named .kept .1 .1 .0, named-most foundName (length (s .args .positions .now)))))
+    simp (length-take, length-drop) (omega (arith, p .put-named .ensures .0, p .put-named .kept .1 .1 .0, named-most foundName (length (s .args .positions .now))))
 
 add-result : tie.Need-add-result
 add-result c =

@@ -4,9 +4,9 @@ use lib.ListN.{length-take, length-drop}
 use borrow.Author.Needs.{needs}
 use Rattle.definitions.specs.Programs.{named, rulesName, foundLines}
 use Rattle.lines.proofs.Lines.{named-most, both-stored}
-use Rattle.motif.proofs.Printing.{found-most}
-use Rattle.motif.proofs.rules_and_found.Statement.{statement}
-use Rattle.motif.proofs.rules_and_found.Tie as tie
+use Rattle.motif_output.proofs.Printing.{found-most}
+use Rattle.motif_output.proofs.rules_and_found.Statement.{statement}
+use Rattle.motif_output.proofs.rules_and_found.Tie as tie
 
 sub-found-lines : tie.Need-sub-found-lines
 sub-found-lines c =
@@ -24,7 +24,7 @@ found-lines-requires : tie.Need-found-lines-requires
 found-lines-requires c κs =
     let p = c .before .before .before in
     let s = p .before .before .before .before .before in
-    (s .pre .1, s .pre .2, simp (length-take, length-drop) (omega (arith, p .put-named .ensures .0, p .put-named .kept .1 .1 .0, named-most rulesName (s .args .rules))))
+    simp (length-take, length-drop) (omega (arith, p .put-named .ensures .0, p .put-named .kept .1 .1 .0, named-most rulesName (s .args .rules)))
 
 add-result : tie.Need-add-result
 add-result c =

@@ -6,7 +6,7 @@ use Prim.Native.Nat.{ℕ, _≤_, _<_}
 use native.Mathlib.Omega.{arith}
 use lib.ListN.{length, getD}
 use lib.Dec.{ltb, eqb}
-use borrow.Author.Tests.{lt-ltb, le-ltb, ltb-false, eqb-false}
+use borrow.Author.Tests.{le-ltb, ltb-false, eqb-false}
 use Rattle.definitions.specs.declared.Order.{Order}
 use Rattle.definitions.specs.declared.Answer.{Answer}
 use Rattle.definitions.specs.declared.Answer.the-variants.{Refused}
@@ -14,28 +14,23 @@ use Rattle.definitions.specs.Table.{tableOf}
 use Rattle.definitions.specs.Occurrences.{occurrences}
 use Rattle.definitions.specs.Services.{Outcome, firstMet, outcomeOf, outcome, slicesAfter, Serves, Answers, patternChecks, tableChecks, buildService, locateService}
 use Rattle.definitions.specs.Programs.{motifOf, driveOf, inputTooLong}
-use Rattle.lists.specs.Decisions.{met}
+use Rattle.lists.specs.Decisions.{met, checked, refused-met}
 use Rattle.lists.specs.Serving.{refused-by}
-use Rattle.lists.specs.Members.{at-in}
 use Rattle.lyndon.specs.Ranks.{Bytes}
-use Rattle.lyndon.specs.Occurrences.{occurrence, occurrences-fewer}
+use Rattle.lyndon.specs.Occurrences.{occurrences-fewer}
 use Rattle.lyndon.specs.Reading.{Stored, Acceptable, passes, table-text, table-size}
-use Rattle.lines.specs.Lines.{Small}
-use Rattle.motif.specs.Steps.{driveStep, motifStep}
+use Rattle.motif_output.specs.Steps.{driveStep, motifStep}
 
 pub stored : (text : List ℕ) → length text ≤ 2047 → Bytes text → Stored text 0
 stored text h b = record { short = h; bytes = b; chairs = omega arith }
 
--- positions are small
-pub finds-small : (p s : List ℕ) → length s ≤ 2047 → Small (occurrences p s)
-finds-small p s h i k = omega (arith, occurrence p s (getD (occurrences p s) i 0) .0 (at-in (occurrences p s) i k) .0)
-
 -- ---- the drive
 
 module _ (o : Order) (input : List ℕ) where
-  pub drive-long : (old : List ℕ) → 4095 < length input → Serves (driveStep o input old) (Answers (Refused 1 0)) (old ∷ [])
+  pub drive-long : (old : List ℕ) {a b : ℕ} (r : Answer) → r ≡ checked (inputTooLong input) (length input) → r ≡ Refused a b
+      → Serves (driveStep o input old) (Answers r) (old ∷ [])
   unfolding outcomeOf driveStep
-  drive-long old h = refused-by (inputTooLong input) (met (lt-ltb 4095 (length input) h)) refl refl
+  drive-long old r e f = let (q, h) = refused-met (inputTooLong input) (length input) e f in refused-by (inputTooLong input) (met q) (ap outcomeOf h) refl
 
   module _ (old work : List ℕ) (long : 16384 ≤ length work) (room : 4608 ≤ length old) (h : length input ≤ 4095) (b : Bytes (driveOf input)) where
     built : (m : Bool) → ltb 2047 (length (driveOf input)) ≡ m

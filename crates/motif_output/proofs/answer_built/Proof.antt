@@ -1,29 +1,17 @@
 -- `answer_built` prints the refusal of the motif, or the lines of success.
-use mathlib.Core.Path.{sym, _∙_, ap, ap₂, subst}
+use mathlib.Core.Path.{_∙_, ap, ap₂}
 use mathlib.Core.List.{List, _++_}
 use Prim.Native.Nat.{ℕ}
 use native.Mathlib.Omega.{arith}
 use lib.ListN.{length}
 use borrow.Author.Needs.{needs}
-use Rattle.definitions.specs.Services.{sampleOrder}
 use Rattle.definitions.specs.Words.{placed}
 use Rattle.definitions.specs.Programs.{motifOf, driveOf, named, rulesName, foundLines}
 use Rattle.definitions.specs.Table.{ruleCount}
-use Rattle.lines.specs.Lines.{Small}
 use Rattle.lyndon.specs.Occurrences.{occurrences-most}
-use Rattle.lyndon.specs.Reading.{table-size}
-use Rattle.motif.proofs.Splitting.{drive-bytes}
-use Rattle.motif.proofs.Stepping.{stored, finds-small}
-use Rattle.motif.proofs.Printing.{motif-refused, motif-done}
-use Rattle.motif.proofs.answer_built.Statement.{statement}
-use Rattle.motif.proofs.answer_built.Tie as tie
-
-put-refusal-requires : tie.Need-put-refusal-requires
-put-refusal-requires c κs =
-    let told = c .before in
-    let l = told .before .before .before .before .before .before in
-    let s = l .before .before .before .before .before .before .before .before in
-    (motif-refused (s .args .input .now) (l .locate-motif .result) (s .args .positions .now) (l .locate-motif .last .1 .1 .1 .0) (l .locate-motif .ensures) _ _ (told .enum-told .given .1) .0, omega arith)
+use Rattle.motif_output.proofs.Printing.{motif-refused, motif-done}
+use Rattle.motif_output.proofs.answer_built.Statement.{statement}
+use Rattle.motif_output.proofs.answer_built.Tie as tie
 
 returns : tie.Need-returns
 returns c =
@@ -31,7 +19,7 @@ returns c =
     let told = r .before .before in
     let l = told .before .before .before .before .before .before in
     let s = l .before .before .before .before .before .before .before .before in
-    let e = motif-refused (s .args .input .now) (l .locate-motif .result) (s .args .positions .now) (l .locate-motif .last .1 .1 .1 .0) (l .locate-motif .ensures) _ _ (told .enum-told .given .1) .1 in
+    let e = motif-refused (s .args .input .now) (l .locate-motif .result) (s .args .positions .now) (l .locate-motif .last .1 .1 .1 .0) (l .locate-motif .ensures) _ _ (told .enum-told .given .1) in
     (r .put-refusal .ensures .0 ∙ ap length e, r .put-refusal .ensures .1 ∙ ap (λ (x : List ℕ). placed x (s .args .out .now)) e)
 
 part-rules-and-found-end : tie.Need-part-rules-and-found-end
@@ -45,18 +33,12 @@ rules-and-found-requires : tie.Need-rules-and-found-requires
 rules-and-found-requires c κs =
     let a = c .before .before .before .before in
     let l = a .before .before .before .before .before .before in
-    let k = l .before .before .before .before .before .before .before in
-    let s = k .before in
+    let s = l .before .before .before .before .before .before .before .before in
     let input = s .args .input .now in
-    let bytes = drive-bytes input (λ i h. omega (arith, k .shared-slice-known .given i)) in
     let (fits, finds, output) = motif-done input (l .locate-motif .result) (s .args .positions .now) (l .locate-motif .last .1 .1 .1 .0) (l .locate-motif .ensures) _ (a .a .given .1) in
     let most = occurrences-most (motifOf input) (driveOf input) in
-    let short = s .pre .0 .short in (
-      omega (arith, ap length (s .pre .0 .table), table-size sampleOrder (driveOf input) 0 (stored (driveOf input) (s .pre .0 .short) bytes)),
-      subst Small (sym finds) (finds-small (motifOf input) (driveOf input) (s .pre .0 .short)),
-      omega (arith, ap length finds, most),
-      omega (arith, ap length finds, most),
-    )
+    let short = s .pre .0 .short in
+    omega (arith, ap length finds, most)
 
 returns-2 : tie.Need-returns-2
 returns-2 c =
@@ -71,6 +53,6 @@ returns-2 c =
 pub answer-built-spec : {M : Type 1} → statement M
 answer-built-spec =
     tie.close
-    (tie.spec (λ c κs. search needs) (λ c. search needs) (λ c. search needs) put-refusal-requires (λ c. search needs) (λ c. search needs)
+    (tie.spec (λ c κs. search needs) (λ c. search needs) (λ c. search needs) (λ c κs. search needs) (λ c. search needs) (λ c. search needs)
     (λ c. search needs) returns (λ c. search needs) (λ c. search needs) part-rules-and-found-end rules-and-found-requires (λ c. search needs)
     (λ c. search needs) (λ c. search needs) returns-2)

@@ -6,16 +6,9 @@ use native.Mathlib.Omega.{arith}
 use lib.ListN.{length}
 use borrow.Author.Needs.{needs}
 use Rattle.definitions.specs.Words.{placed}
-use Rattle.motif.proofs.Printing.{drive-refused, drive-done}
-use Rattle.motif.proofs.answer.Statement.{statement}
-use Rattle.motif.proofs.answer.Tie as tie
-
-put-refusal-requires : tie.Need-put-refusal-requires
-put-refusal-requires c κs =
-    let told = c .before in
-    let b = told .before .before .before .before .before .before in
-    let s = b .before .before .before .before .before .before .before .before in
-    (drive-refused (s .args .input .now) (b .build-drive .result) (s .args .table .now) (b .build-drive .last .1 .1 .0) (b .build-drive .ensures) _ _ (told .enum-told .given .1) .0, omega arith)
+use Rattle.motif_output.proofs.Printing.{drive-refused, drive-done}
+use Rattle.motif_output.proofs.answer.Statement.{statement}
+use Rattle.motif_output.proofs.answer.Tie as tie
 
 returns : tie.Need-returns
 returns c =
@@ -23,7 +16,7 @@ returns c =
     let told = r .before .before in
     let b = told .before .before .before .before .before .before in
     let s = b .before .before .before .before .before .before .before .before in
-    let e = drive-refused (s .args .input .now) (b .build-drive .result) (s .args .table .now) (b .build-drive .last .1 .1 .0) (b .build-drive .ensures) _ _ (told .enum-told .given .1) .1 in
+    let e = drive-refused (s .args .input .now) (b .build-drive .result) (s .args .table .now) (b .build-drive .last .1 .1 .0) (b .build-drive .ensures) _ _ (told .enum-told .given .1) in
     (r .put-refusal .ensures .0 ∙ ap length e, r .put-refusal .ensures .1 ∙ ap (λ (x : List ℕ). placed x (s .args .out .now)) e)
 
 part-answer-built-end : tie.Need-part-answer-built-end
@@ -53,6 +46,6 @@ returns-2 c =
 pub answer-spec : {M : Type 1} → statement M
 answer-spec =
     tie.close
-    (tie.spec (λ c κs. search needs) (λ c. search needs) (λ c. search needs) put-refusal-requires (λ c. search needs) (λ c. search needs)
+    (tie.spec (λ c κs. search needs) (λ c. search needs) (λ c. search needs) (λ c κs. search needs) (λ c. search needs) (λ c. search needs)
     (λ c. search needs) returns (λ c. search needs) (λ c. search needs) part-answer-built-end answer-built-requires (λ c. search needs)
     (λ c. search needs) (λ c. search needs) (λ c. search needs) returns-2)

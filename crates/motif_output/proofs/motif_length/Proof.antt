@@ -4,9 +4,9 @@ use Prim.Native.Nat.{_+_, _-_, _≤_}
 use native.Mathlib.Omega.{arith}
 use lib.ListN.{length, drop}
 use Rattle.definitions.specs.Programs.{motifOf}
-use Rattle.motif.proofs.Splitting.{ends-here, goes-on, ends-last}
-use Rattle.motif.proofs.motif_length.Statement.{statement}
-use Rattle.motif.proofs.motif_length.Tie as tie
+use Rattle.motif_output.proofs.Splitting.{ends-here, goes-on, ends-last}
+use Rattle.motif_output.proofs.motif_length.Statement.{statement}
+use Rattle.motif_output.proofs.motif_length.Tie as tie
 
 abbrev Inv-loop : tie.InvT-loop
 Inv-loop input i₀ i = (i ≤ length input) × (length (motifOf input) ≡ i + length (motifOf (drop i input)))
