@@ -3,7 +3,7 @@
 use definitions::Reply;
 use definitions::SearchReply;
 use replies::replied;
-use replies::replied_reading;
+use replies::replied_read;
 use replies::replied_search;
 ghost use mathlib.Core.List.{[], _∷_};
 ghost use Rattle.definitions.specs.Services.{Serves, sampleOrder, buildService, checkService, readService, extractService, countService, locateService, cutsService};
@@ -35,7 +35,7 @@ pub extern "C" fn sirbolta_check(table: &[u32], work: &mut [u32]) -> Reply
 pub extern "C" fn sirbolta_read(table: &[u32], work: &mut [u32], result: &mut [u8]) -> Reply
     ensures { λ r. ⌜ Serves (readService sampleOrder (now (table .entry)) (now (work .entry)) (now (result .entry))) (Replies r) (now (work .exit) ∷ now (result .exit) ∷ []) ⌝ }
 {
-    replied_reading(index::read(table, work, result))
+    replied_read(index::read(table, work, result))
 }
 
 // Reads a part of the text: `index::extract`.

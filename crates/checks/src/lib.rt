@@ -1,14 +1,13 @@
-// What the services share: the checks, each a small function that answers its refusal or goes on with what was accepted; and clearing the work slice afterwards.
+// What the services share: the checks of what is handed over, each a small function that answers its refusal or goes on with what was accepted; and
+// clearing the work slice afterwards. `results` has the checks of what is asked for and written.
 use definitions::Answer;
-use definitions::Reading;
 use layout::WORK;
 ghost use mathlib.Core.Path.{_≡_};
 ghost use Prim.Native.Nat.{_≤_};
 ghost use lib.ListN.{length};
-ghost use Rattle.definitions.specs.Services.{cleared, textTooLong, patternChecks, workTooShort, resultTooShort, tableLength, rangePastEnd};
+ghost use Rattle.definitions.specs.Services.{cleared, textTooLong, patternChecks, workTooShort, tableLength};
 ghost use Rattle.layout.specs.Layout.{WORK};
 ghost use Rattle.lists.specs.Decisions.{checked, answered};
-ghost use Rattle.checks.specs.Checks.{readingOf};
 
 // Refusal 1, or the number of samples.
 pub fn text_fits(text: &[u8]) -> Answer
@@ -45,30 +44,6 @@ pub fn work_fits(n: usize) -> Answer
     }
 }
 
-// Refusal 9 of a result slice of n entries, or the entries needed.
-pub fn result_fits(needed: usize, n: usize) -> Answer
-    ensures { λ r. ⌜ r ≡ checked (resultTooShort needed n) needed ⌝ }
-{
-    if n < needed {
-        Answer::Refused(9, needed)
-    } else {
-        Answer::Done(needed)
-    }
-}
-
-// Refusal 8 of so many samples from `start` on in a text of n samples, or how many they are.
-pub fn range_fits(n: usize, start: usize, count: usize) -> Answer
-    ensures { λ r. ⌜ r ≡ checked (rangePastEnd n start count) count ⌝ }
-{
-    if n < start {
-        return Answer::Refused(8, 0);
-    }
-    if n - start < count {
-        return Answer::Refused(8, 0);
-    }
-    Answer::Done(count)
-}
-
 // Refusal 5 of a table of n words, or n.
 pub fn length_fits(n: usize) -> Answer
     ensures { λ r. ⌜ r ≡ checked (tableLength n) n ⌝ }
@@ -83,16 +58,6 @@ pub fn length_fits(n: usize) -> Answer
         return Answer::Refused(5, 0);
     }
     Answer::Done(n)
-}
-
-// An answer to reading: success has the chair number with it.
-pub fn reading(a: Answer, chair: u16) -> Reading
-    ensures { λ r. ⌜ r ≡ readingOf a chair ⌝ }
-{
-    match a {
-        Answer::Done(n) => Reading::Done(n, chair),
-        Answer::Refused(number, place) => Reading::Refused(number, place),
-    }
 }
 
 // Clears the words that the services use.

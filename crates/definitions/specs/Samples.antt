@@ -7,8 +7,8 @@ use mathlib.Core.List.{List, [], _∷_, _++_, map}
 use lib.ListN.{length, drop, getD, replicate}
 use lib.Dec.{eqb}
 use Rattle.definitions.specs.declared.Answer.{Answer}
-use Rattle.definitions.specs.declared.Reading.{Reading}
-use Rattle.definitions.specs.declared.Reading.the-variants as reading
+use Rattle.definitions.specs.declared.ReadAnswer.{ReadAnswer}
+use Rattle.definitions.specs.declared.ReadAnswer.the-variants as read
 use Rattle.definitions.specs.declared.Answer.the-variants.{Done, Refused}
 use Rattle.definitions.specs.declared.Search.{Search}
 use Rattle.definitions.specs.declared.Reply.{Reply}
@@ -17,7 +17,7 @@ use Rattle.definitions.specs.Words.{every, below, least, placed, same, b
 use Rattle.definitions.specs.Grammar.{leftOf, rightOf, word, split, lyndonTree, indexOf, meet, visit, order, ruleOf, rulesOf}
 use Rattle.definitions.specs.Table.{rankOf, byteOf, numberOfRank, rankOfNumber, marked, wordOf, kindOf, numberOf, ruleWords, words, tableOf, badFirst, badSecond, badWord, stringOf, strings, ruleString, isPair, leftHalf, rightHalf, spelled, textOf, chairOf, isDrive, isChair, isTable}
 use Rattle.definitions.specs.Occurrences.{occurrences, notGreaterAtDifference, isLive, liveCuts, patternCuts, straddles, straddling, cutIn, cutAt}
-use Rattle.definitions.specs.Services.{Numbers, Outcome, numbersOf, readingOutcome, searchOutcome, Service, firstMet, outcome, outcomeOf, cleared, slicesAfter, sampleOrder, tableChecks, patternChecks, buildService, checkService, readService, extractService, countService, locateService, cutsService}
+use Rattle.definitions.specs.Services.{Numbers, Outcome, numbersOf, readOutcome, searchOutcome, Service, firstMet, outcome, outcomeOf, cleared, slicesAfter, sampleOrder, tableChecks, patternChecks, buildService, checkService, readService, extractService, countService, locateService, cutsService}
 use Rattle.definitions.specs.Replies.{replyNumbers, searchNumbers}
 use Rattle.definitions.specs.Programs.{digits, digitsUpTo, digitCount, decimal, line, named, decimalLines, refusedLine, printed, motifOf, driveOf, foundLines, motifOutput}
 
@@ -80,7 +80,7 @@ pub data Sample : Type 0 where
   -- the answer stands for this number, place and count
   answers : Answer → ℕ → ℕ → ℕ → Sample
   -- the same of an answer to reading, with the chair number
-  reads : Reading → ℕ → ℕ → ℕ → ℕ → Sample
+  reads : ReadAnswer → ℕ → ℕ → ℕ → ℕ → Sample
   -- the same of an answer to counting or locating, and of the replies to C
   searches : Search → ℕ → ℕ → ℕ → Sample
   replies : Reply → ℕ → ℕ → ℕ → ℕ → Sample
@@ -125,7 +125,7 @@ holds (leaves s after) = same (last (slicesAfter s)) after
 holds (clears s b) = eqb (getD (getD (slicesAfter s) 0 []) 0 7) (cond b 0 7)
 holds (clearing work l) = same (edges (cleared work)) l
 holds (answers r number place count) = same (parts (outcomeOf r)) (number ∷ place ∷ count ∷ 0 ∷ [])
-holds (reads r number place count chair) = same (parts (readingOutcome r)) (number ∷ place ∷ count ∷ chair ∷ [])
+holds (reads r number place count chair) = same (parts (readOutcome r)) (number ∷ place ∷ count ∷ chair ∷ [])
 holds (searches s number place count) = same (parts (searchOutcome s)) (number ∷ place ∷ count ∷ 0 ∷ [])
 holds (replies r number place count chair) = same (four (replyNumbers r)) (number ∷ place ∷ count ∷ chair ∷ [])
 holds (found r number place count chair) = same (four (searchNumbers r)) (number ∷ place ∷ count ∷ chair ∷ [])
@@ -216,8 +216,8 @@ samples =
     ∷ clears (buildService sampleOrder abab 40 room (replicate 11 7)) true
     ∷ answers (Done 5) 0 0 5
     ∷ answers (Refused 6 5) 6 5 0
-    ∷ reads (reading.Done 5 40) 0 0 5 40
-    ∷ reads (reading.Refused 6 5) 6 5 0 0
+    ∷ reads (read.Done 5 40) 0 0 5 40
+    ∷ reads (read.Refused 6 5) 6 5 0 0
     ∷ searches (record { answer = Refused 6 5 }) 6 5 0
     ∷ replies (record { number = 1; chair = 2; place = 3; count = 4 }) 1 3 4 2
     ∷ found (record { number = 1; chair = 2; place = 3; count = 4 }) 1 3 4 2
@@ -256,5 +256,5 @@ samples =
 
 -- every sample holds
 pub samples-hold : all samples ≡ true
-unfolding edges holds all samples four parts numbersOf readingOutcome searchOutcome replyNumbers searchNumbers every below least placed same begins lexlt lyndon cutOf leftOf rightOf word split lyndonTree indexOf meet visit order ruleOf rulesOf rankOf byteOf numberOfRank rankOfNumber marked wordOf kindOf numberOf ruleWords words tableOf badFirst badSecond badWord stringOf strings ruleString isPair leftHalf rightHalf spelled textOf chairOf isDrive isChair isTable occurrences notGreaterAtDifference isLive liveCuts patternCuts straddles straddling cutIn cutAt firstMet outcome outcomeOf cleared slicesAfter last tableChecks patternChecks buildService checkService readService extractService countService locateService cutsService digits digitsUpTo digitCount decimal line named decimalLines refusedLine printed motifOf driveOf foundLines motifOutput
+unfolding edges holds all samples four parts numbersOf readOutcome searchOutcome replyNumbers searchNumbers every below least placed same begins lexlt lyndon cutOf leftOf rightOf word split lyndonTree indexOf meet visit order ruleOf rulesOf rankOf byteOf numberOfRank rankOfNumber marked wordOf kindOf numberOf ruleWords words tableOf badFirst badSecond badWord stringOf strings ruleString isPair leftHalf rightHalf spelled textOf chairOf isDrive isChair isTable occurrences notGreaterAtDifference isLive liveCuts patternCuts straddles straddling cutIn cutAt firstMet outcome outcomeOf cleared slicesAfter last tableChecks patternChecks buildService checkService readService extractService countService locateService cutsService digits digitsUpTo digitCount decimal line named decimalLines refusedLine printed motifOf driveOf foundLines motifOutput
 samples-hold = refl

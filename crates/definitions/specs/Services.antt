@@ -10,8 +10,8 @@ use Rattle.definitions.specs.declared.Order.{Order}
 use Rattle.definitions.specs.declared.Order.the-variants.{Unsigned}
 use Rattle.definitions.specs.declared.Answer.{Answer}
 use Rattle.definitions.specs.declared.Answer.the-variants as answer
-use Rattle.definitions.specs.declared.Reading.{Reading}
-use Rattle.definitions.specs.declared.Reading.the-variants as reading
+use Rattle.definitions.specs.declared.ReadAnswer.{ReadAnswer}
+use Rattle.definitions.specs.declared.ReadAnswer.the-variants as read
 use Rattle.definitions.specs.declared.Search.{Search}
 use Rattle.definitions.specs.Words.{least, placed}
 use Rattle.definitions.specs.Table.{tableOf, badWord, isTable, textOf, chairOf, ruleCount}
@@ -41,9 +41,9 @@ unfoldable pub outcomeOf : Answer → Outcome
 outcomeOf (answer.Done n) = done n 0
 outcomeOf (answer.Refused number place) = refused number place
 
-unfoldable pub readingOutcome : Reading → Outcome
-readingOutcome (reading.Done n chair) = done n chair
-readingOutcome (reading.Refused number place) = refused number place
+unfoldable pub readOutcome : ReadAnswer → Outcome
+readOutcome (read.Done n chair) = done n chair
+readOutcome (read.Refused number place) = refused number place
 
 unfoldable pub searchOutcome : Search → Outcome
 searchOutcome s = outcomeOf (s .answer)
@@ -107,8 +107,8 @@ pub record Serves (s : Service) (answers : Outcome → Type 0) (held : List (Lis
 abbrev pub Answers : Answer → Outcome → Type 0
 Answers r o = outcomeOf r ≡ o
 
-abbrev pub Reads : Reading → Outcome → Type 0
-Reads r o = readingOutcome r ≡ o
+abbrev pub Reads : ReadAnswer → Outcome → Type 0
+Reads r o = readOutcome r ≡ o
 
 abbrev pub Searches : Search → Outcome → Type 0
 Searches r o = searchOutcome r ≡ o

@@ -12,7 +12,7 @@ pub enum Answer {
 }
 
 // As `Answer`; a table that is read back also gives its chair number.
-pub enum Reading {
+pub enum ReadAnswer {
     Done(usize, u16),
     Refused(u32, usize),
 }

@@ -1,60 +1,9 @@
-// The services: each checks what it is handed in the paper's order, and does its work or refuses with number and place.
+// The services, each from the crate that has it: it checks what it is handed in the paper's order, and does its work or refuses with number and place.
 // What it answers and what every lent slice holds afterwards is given by its definition, from the inputs alone.
-use checks::clear_front;
-use checks::text_fits;
-use checks::work_fits;
-use definitions::Answer;
-use delivery::deliver;
-use layout::TABLE;
-use layout::WORK;
-use opening::admit;
-use ranks::SAMPLE_ORDER;
+pub use building::build;
+pub use checking::check;
 pub use reading::extract;
 pub use reading::read;
 pub use searching::count;
 pub use searching::live_cuts;
 pub use searching::locate;
-ghost use mathlib.Core.List.{[], _∷_};
-ghost use Prim.Native.Nat.{_≤_};
-ghost use lib.ListN.{length};
-ghost use Rattle.definitions.specs.Table.{tableOf};
-ghost use Rattle.definitions.specs.Services.{Serves, Answers, sampleOrder, writes, buildService, checkService};
-ghost use Rattle.layout.specs.Layout.{WORK};
-
-// Builds the table of a text and a chair number. Refuses by 1, 4, 9; success answers the number of words.
-pub fn build(text: &[u8], chair: u16, work: &mut [u32], result: &mut [u32]) -> Answer
-    ensures { λ r. ⌜ Serves (buildService sampleOrder (now (text .entry)) chair (now (work .entry)) (now (result .entry))) (Answers r) (now (work .exit) ∷ now (result .exit) ∷ []) ⌝ }
-{
-    let t = text_fits(text);
-    let Answer::Done(_) = t else {
-        return t;
-    };
-    let w = work_fits(work.len());
-    let Answer::Done(_) = w else {
-        return w;
-    };
-    let a = build_in(text, chair, &mut work[0..WORK], result);
-    clear_front(work);
-    a
-}
-
-// The same in 16,384 words, once text and work slice are known to fit.
-fn build_in(text: &[u8], chair: u16, work: &mut [u32], result: &mut [u32]) -> Answer
-    requires { ⌜ (length (now text) ≤ 2047) × (WORK ≤ length (now work)) ⌝ }
-    ensures { λ r. ⌜ Serves (writes [] (tableOf sampleOrder (now (text .entry)) chair) 0 (now (result .entry))) (Answers r) (now (result .exit) ∷ []) ⌝ }
-{
-    let end = TABLE + 2 * grammar::table(SAMPLE_ORDER, text, chair, work);
-    deliver(&work[TABLE..end], result)
-}
-
-// Checks a table. Refuses by 4 to 7; success answers the number of rules.
-pub fn check(table: &[u32], work: &mut [u32]) -> Answer
-    ensures { λ r. ⌜ Serves (checkService sampleOrder (now (table .entry)) (now (work .entry))) (Answers r) (now (work .exit) ∷ []) ⌝ }
-{
-    let a = admit(SAMPLE_ORDER, table, work);
-    let Answer::Done(_) = a else {
-        return a;
-    };
-    clear_front(work);
-    Answer::Done(table.len() / 2)
-}

@@ -1,6 +1,7 @@
 // What stands in the areas of a search of a rule.
 use layout::FOUND;
 use layout::LENGTHS;
+use layout::PACK;
 use layout::PLACES;
 use slices::wide;
 ghost use mathlib.Core.Path.{_≡_};
@@ -27,7 +28,7 @@ pub fn number_of(work: &[u32], r: usize) -> usize
     requires { ⌜ Readable (now work) r ⌝ }
     ensures { λ n. ⌜ n ≡ countIn (now (work .entry)) r ⌝ }
 {
-    wide(work[FOUND + r] / 4096)
+    wide(work[FOUND + r] / PACK)
 }
 
 // The cut at which one straddles its join, 0 if none does.
@@ -35,5 +36,5 @@ pub fn cut_of(work: &[u32], r: usize) -> usize
     requires { ⌜ Readable (now work) r ⌝ }
     ensures { λ n. ⌜ n ≡ joinCutIn (now (work .entry)) r ⌝ }
 {
-    wide(work[FOUND + r] % 4096)
+    wide(work[FOUND + r] % PACK)
 }

@@ -39,6 +39,9 @@ pub const PLACES: usize = 4352;
 
 pub const FOUND: usize = 6656;
 
+// A word of FOUND is occurrences * PACK + cut.
+pub const PACK: u32 = 4096;
+
 pub const FLAGS: usize = 8960;
 
 pub const FLAGS_END: usize = 11008;

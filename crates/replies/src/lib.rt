@@ -1,10 +1,10 @@
 // Answers as structs, for interfaces without enums.
 use definitions::Answer;
-use definitions::Reading;
+use definitions::ReadAnswer;
 use definitions::Reply;
 use definitions::Search;
 use definitions::SearchReply;
-ghost use Rattle.definitions.specs.Services.{done, refused, outcomeOf, readingOutcome, searchOutcome};
+ghost use Rattle.definitions.specs.Services.{done, refused, outcomeOf, readOutcome, searchOutcome};
 ghost use Rattle.definitions.specs.Replies.{Replies, SearchReplies};
 
 // An answer as a struct.
@@ -18,12 +18,12 @@ pub fn replied(a: Answer) -> Reply
 }
 
 // An answer to reading as a struct.
-pub fn replied_reading(a: Reading) -> Reply
-    ensures { λ r. ⌜ Replies r (readingOutcome a) ⌝ }
+pub fn replied_read(a: ReadAnswer) -> Reply
+    ensures { λ r. ⌜ Replies r (readOutcome a) ⌝ }
 {
     match a {
-        Reading::Done(n, chair) => success(n, chair),
-        Reading::Refused(number, place) => refusal(number, place),
+        ReadAnswer::Done(n, chair) => success(n, chair),
+        ReadAnswer::Refused(number, place) => refusal(number, place),
     }
 }
 

@@ -19,7 +19,7 @@ occursIn o t p r = occurrences p (ruleString o t r)
 unfoldable pub acrossJoin : Order → List ℕ → List ℕ → ℕ → List ℕ
 acrossJoin o t p r = straddling p (leftHalf o t r) (rightHalf o t r)
 
--- x holds the number of occurrences times 4096 and the cut at the join, 0 where the rule is a symbol's
+-- x holds the number of occurrences times PACK and the cut at the join, 0 where the rule is a symbol's
 pub record FoundIn (o : Order) (t p : List ℕ) (r x : ℕ) : Type 0 where
   pub number : x / PACK ≡ length (occursIn o t p r)
   pub inside : isPair t r ≡ true → x % PACK ≤ length (leftHalf o t r)

@@ -12,6 +12,7 @@ use joins::cut_at_join;
 use layout::FLAGS;
 use layout::FLAGS_END;
 use layout::FOUND;
+use layout::PACK;
 use ranks::rank_of;
 use slices::put;
 ghost use mathlib.Core.Path.{_≡_};
@@ -48,7 +49,7 @@ fn count_rules(order: Order, pattern: &[u8], work: &mut [u32], rules: usize)
     }
 }
 
-// What is found in rule r: its occurrences times 4096 and the cut at its join.
+// What is found in rule r: its occurrences times PACK and the cut at its join.
 fn found_in(order: Order, pattern: &[u8], work: &[u32], r: usize) -> u32
     requires { ⌜ CountedBefore order (now pattern) r (now work) ⌝ }
     ensures { λ x. ⌜ ((h : CountedBefore order (now (pattern .entry)) r (now (work .entry))) → FoundIn order (tableOf order (h .text) (h .chair)) (map (rankOf order) (now (pattern .entry))) r x) ⌝ }
@@ -73,18 +74,18 @@ fn found_in_symbol(order: Order, pattern: &[u8], work: &[u32], r: usize) -> u32
     }
     let a = work[place_of(work, r)];
     if a == rank_of(order, pattern[0]) {
-        return 4096;
+        return PACK;
     }
     0
 }
 
 // The occurrences in both halves and at the join, and the cut there.
 fn found(halves: usize, cut: usize) -> u32
-    requires { ⌜ (halves ≤ 4096) × (cut < 4096) ⌝ }
+    requires { ⌜ (halves ≤ 4096) × (cut < PACK) ⌝ }
     ensures { λ x. ⌜ (x / PACK ≡ halves + min 1 cut) × (x % PACK ≡ cut) ⌝ }
 {
     if cut == 0 {
-        return (halves * 4096) as u32;
+        return halves as u32 * PACK;
     }
-    ((halves + 1) * 4096 + cut) as u32
+    (halves + 1) as u32 * PACK + cut as u32
 }

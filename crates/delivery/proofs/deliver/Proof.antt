@@ -2,7 +2,7 @@
 use mathlib.Core.Path.{refl}
 use lib.ListN.{length}
 use borrow.Author.Needs.{needs}
-use Rattle.delivery.proofs.Writing.{list-refused, list-fits, list-written}
+use Rattle.results.proofs.Writing.{list-refused, list-fits, list-written}
 use Rattle.delivery.proofs.deliver.Statement.{statement}
 use Rattle.delivery.proofs.deliver.Tie as tie
 

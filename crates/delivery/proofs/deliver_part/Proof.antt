@@ -6,7 +6,7 @@ use native.Mathlib.Omega.{arith}
 use lib.ListN.{take, drop}
 use borrow.Author.Needs.{needs}
 use Rattle.definitions.specs.Words.{placed}
-use Rattle.delivery.proofs.Writing.{list-refused, list-fits, list-written, range-refused, range-fits, piece-size, piece-same, part-served}
+use Rattle.results.proofs.Writing.{list-refused, list-fits, list-written, range-refused, range-fits, piece-size, piece-same, part-served}
 use Rattle.delivery.proofs.deliver_part.Statement.{statement}
 use Rattle.delivery.proofs.deliver_part.Tie as tie
 

@@ -1,6 +1,6 @@
 -- `deliver_text` spells where the result slice is long enough, and else refuses.
 use borrow.Author.Needs.{needs}
-use Rattle.delivery.proofs.Writing.{list-refused, list-fits, list-written}
+use Rattle.results.proofs.Writing.{list-refused, list-fits, list-written}
 use Rattle.delivery.proofs.deliver_text.Statement.{statement}
 use Rattle.delivery.proofs.deliver_text.Tie as tie
 

@@ -5,10 +5,10 @@ use native.Mathlib.Omega.{arith}
 use lib.ListN.{length}
 use borrow.Author.Needs.{needs}
 use Rattle.definitions.specs.Table.{chairOf}
-use Rattle.definitions.specs.Services.{done, readingOutcome}
+use Rattle.definitions.specs.Services.{done, readOutcome}
 use Rattle.lists.specs.Serving.{restated}
 use Rattle.lyndon.specs.Reading.{table-chair}
-use Rattle.checks.proofs.Readings.{reading-refused, reading-done}
+use Rattle.results.proofs.Chairs.{chair-refused, chair-done}
 use Rattle.spelling.proofs.Texts.{loaded-table, loaded-root}
 use Rattle.delivery.proofs.read_loaded.Statement.{statement}
 use Rattle.delivery.proofs.read_loaded.Tie as tie
@@ -41,8 +41,8 @@ returns c h e =
     let w = s .args .work .now in
     let chair = k .chair-of .ensures ∙ ap chairOf (loaded-table w h (s .args .rules) e) ∙ table-chair (h .order) (h .text) (h .chair) (h .stored) in
     let r = d .deliver-text .result in
-    restated (λ i j q. ap readingOutcome (c .reading .ensures) ∙ reading-refused r (k .chair-of .result) i j q)
-    (λ q. ap readingOutcome (c .reading .ensures) ∙ reading-done r (k .chair-of .result) (length (h .text)) q ∙ ap (λ (n : ℕ). done (length (h .text)) n) chair)
+    restated (λ i j q. ap readOutcome (c .with-chair .ensures) ∙ chair-refused r (k .chair-of .result) i j q)
+    (λ q. ap readOutcome (c .with-chair .ensures) ∙ chair-done r (k .chair-of .result) (length (h .text)) q ∙ ap (λ (n : ℕ). done (length (h .text)) n) chair)
     (d .deliver-text .ensures h e)
 
 pub read-loaded-spec : {M : Type 1} → statement M

@@ -3,19 +3,19 @@ use mathlib.Core.Path.{refl, _∙_, ap}
 use native.Mathlib.Omega.{arith}
 use borrow.Author.Needs.{needs}
 use Rattle.definitions.specs.declared.Answer.{Answer}
-use Rattle.definitions.specs.Services.{readingOutcome, readService}
+use Rattle.definitions.specs.Services.{readOutcome, readService}
 use Rattle.lists.specs.Serving.{passed, worked}
-use Rattle.checks.specs.Checks.{readingOf}
+use Rattle.results.specs.Results.{withChair}
 use Rattle.opening.proofs.Services.{ready, opened-cleared, opening-refused, opening-done}
 use Rattle.reading.proofs.read.Statement.{statement}
 use Rattle.reading.proofs.read.Tie as tie
 
 returns : tie.Need-returns
-unfolding readService readingOutcome readingOf
+unfolding readService readOutcome withChair
 returns c =
     let m = c .before .before .before .before .before in
     opening-refused _ (m .admit .ensures) (c .before .enum-told .given .1)
-    (λ x y e. ap readingOutcome (c .reading .ensures ∙ ap (λ (a : Answer). readingOf a 0) e)) (λ d. refl)
+    (λ x y e. ap readOutcome (c .with-chair .ensures ∙ ap (λ (a : Answer). withChair a 0) e)) (λ d. refl)
 
 part-read-loaded-end : tie.Need-part-read-loaded-end
 part-read-loaded-end c =

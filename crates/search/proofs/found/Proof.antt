@@ -7,5 +7,5 @@ use Rattle.search.proofs.found.Tie as tie
 pub found-spec : {M : Type 1} → statement M
 found-spec =
     tie.close
-    (tie.spec (λ c. search needs) (λ c. search needs) (λ c. search needs) (λ c. search needs) (λ c. search needs) (λ c. search needs)
-    (λ c. search needs) (λ c. (omega arith, omega arith)))
+    (tie.spec (λ c. search needs) (λ c. search needs) (λ c. (omega arith, omega arith)) (λ c. search needs) (λ c. search needs) (λ c. search needs)
+    (λ c. search needs) (λ c. search needs) (λ c. (omega arith, omega arith)))

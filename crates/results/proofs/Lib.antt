@@ -1,0 +1,2 @@
+pub mod Chairs
+pub mod Writing

@@ -1,0 +1,42 @@
+// The checks of what is asked for and written, each a small function that answers its refusal or goes on with what was accepted; and the answer to
+// reading a table back, which has a chair number.
+use definitions::Answer;
+use definitions::ReadAnswer;
+ghost use mathlib.Core.Path.{_≡_};
+ghost use Rattle.definitions.specs.Services.{resultTooShort, rangePastEnd};
+ghost use Rattle.lists.specs.Decisions.{checked};
+ghost use Rattle.results.specs.Results.{withChair};
+
+// Refusal 9 of a result slice of n entries, or the entries needed.
+pub fn result_fits(needed: usize, n: usize) -> Answer
+    ensures { λ r. ⌜ r ≡ checked (resultTooShort needed n) needed ⌝ }
+{
+    if n < needed {
+        Answer::Refused(9, needed)
+    } else {
+        Answer::Done(needed)
+    }
+}
+
+// Refusal 8 of so many samples from `start` on in a text of n samples, or how many they are.
+pub fn range_fits(n: usize, start: usize, count: usize) -> Answer
+    ensures { λ r. ⌜ r ≡ checked (rangePastEnd n start count) count ⌝ }
+{
+    if n < start {
+        return Answer::Refused(8, 0);
+    }
+    if n - start < count {
+        return Answer::Refused(8, 0);
+    }
+    Answer::Done(count)
+}
+
+// The answer to reading a table back: success has the chair number with it.
+pub fn with_chair(a: Answer, chair: u16) -> ReadAnswer
+    ensures { λ r. ⌜ r ≡ withChair a chair ⌝ }
+{
+    match a {
+        Answer::Done(n) => ReadAnswer::Done(n, chair),
+        Answer::Refused(number, place) => ReadAnswer::Refused(number, place),
+    }
+}
