@@ -22,7 +22,7 @@ use Rattle.lyndon.specs.Sequence.{order-filled}
 use Rattle.lyndon.specs.Rules.{rulesFor, rules-length, rule-at, rule-symbol}
 use Rattle.lyndon.specs.Encoding.{firstWord, secondWord, words-cons}
 use Rattle.lyndon.specs.Closings.{start, run, closingsOf, Enough, forest-enough, run-rules}
-use Rattle.lyndon.specs.Reading.{Stored, storable, order-most, table-words, table-length}
+use Rattle.lyndon.specs.Stored.{Stored, storable, order-most, table-words, table-length}
 use Rattle.layout.specs.Layout.{LONGEST, CLOSINGS, STACK, LINKS, TABLE, CHAIR, WORK, BESIDE_SYMBOL}
 use Rattle.ends.specs.Areas.{Ended}
 use Rattle.stack.specs.Areas.{Rules, Below}

@@ -10,7 +10,7 @@ use Rattle.definitions.specs.Grammar.{order as orderOf}
 use Rattle.definitions.specs.Table.{marked, tableOf, ruleCount}
 use Rattle.lists.specs.Parts.{part}
 use Rattle.lyndon.specs.Forest.{longests}
-use Rattle.lyndon.specs.Reading.{Stored, order-most, table-length}
+use Rattle.lyndon.specs.Stored.{Stored, order-most, table-length}
 use Rattle.layout.specs.Layout.{LONGEST, TABLE, WORK}
 
 -- the n ranks at the front are those of a marked text

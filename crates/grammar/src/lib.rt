@@ -14,7 +14,7 @@ use stack::push_rule;
 ghost use mathlib.Core.Path.{_≡_};
 ghost use Prim.Native.Nat.{ℕ, _+_, _≤_, _<_};
 ghost use lib.ListN.{length, getD};
-ghost use Rattle.lyndon.specs.Reading.{Stored};
+ghost use Rattle.lyndon.specs.Stored.{Stored};
 ghost use Rattle.definitions.specs.Grammar.{order as orderOf};
 ghost use Rattle.definitions.specs.Table.{marked};
 ghost use Rattle.layout.specs.Layout.{LINKS, WORK};

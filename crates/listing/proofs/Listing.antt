@@ -12,7 +12,7 @@ use Rattle.definitions.specs.Words.{below, begins, placed}
 use Rattle.definitions.specs.Table.{rankOf, ruleString, ruleCount}
 use Rattle.definitions.specs.Occurrences.{occurrences}
 use Rattle.lists.specs.Lists.{empty, placed-none, placed-both}
-use Rattle.lyndon.specs.Reading.{rule-range}
+use Rattle.lyndon.specs.Stored.{rule-range}
 use Rattle.layout.specs.Layout.{lengthIn, countIn, joinCutIn, Readable}
 use Rattle.decoding.specs.declared.Rule.the-variants.{Symbol, Pair}
 use Rattle.decoding.specs.Decoding.{ruleIn}

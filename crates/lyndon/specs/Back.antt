@@ -12,7 +12,7 @@ use Rattle.definitions.specs.Words.{placed}
 use Rattle.definitions.specs.Table.{tableOf, ruleCount}
 use Rattle.definitions.specs.Services.{done, refused, Check, firstMet, cleared, outcome, slicesAfter, tableChecks, checkService, readService}
 use Rattle.lists.specs.Decisions.{First, Passed, none, more, decide, first-decides}
-use Rattle.lyndon.specs.Reading.{Stored, Acceptable, passes, table-text, table-chair}
+use Rattle.lyndon.specs.Stored.{Stored, Acceptable, passes, table-text, table-chair}
 
 -- the work slice is long enough
 module _ (o : Order) (text : List ℕ) (chair : ℕ) (work : List ℕ) (ok : Stored text chair) (long : 16384 ≤ length work) where

@@ -15,7 +15,7 @@ use Rattle.definitions.specs.Table.{textOf}
 use Rattle.definitions.specs.Occurrences.{occurrences}
 use Rattle.definitions.specs.Services.{done, firstMet, cleared, outcome, slicesAfter, searchOutcome, Serves, Searches, tableChecks, patternChecks, countService, locateService}
 use Rattle.lists.specs.Numbers.{Rising}
-use Rattle.lyndon.specs.Reading.{Acceptable}
+use Rattle.lyndon.specs.Stored.{Acceptable}
 use Rattle.lyndon.specs.Occurrences.{BeginsAt, occurrence, occurrences-rising, none-before, none-between, none-after, empty-nowhere}
 
 -- what is demanded of the list l of the occurrences of p in s

@@ -10,7 +10,7 @@ pub mod Closings
 pub mod Ranks
 pub mod Encoding
 pub mod Tables
-pub mod Reading
+pub mod Stored
 pub mod Occurrences
 pub mod Cuts
 pub mod Joins

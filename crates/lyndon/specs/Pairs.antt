@@ -19,7 +19,7 @@ use Rattle.lyndon.specs.Rules.{rulesFor}
 use Rattle.lyndon.specs.Ranks.{number-range}
 use Rattle.lyndon.specs.Encoding.{word-kind, word-number}
 use Rattle.lyndon.specs.Tables.{Entry, one, two, entry}
-use Rattle.lyndon.specs.Reading.{Stored, storable, order-most, table-words, table-rules, table-strings, accepted-stored, accepted-table}
+use Rattle.lyndon.specs.Stored.{Stored, storable, order-most, table-words, table-rules, table-strings, accepted-stored, accepted-table}
 use Rattle.lyndon.specs.Joins.{straddling-cut, live-suffice, occurrences-join}
 
 -- the string of rule r is its halves' strings, and these are its standard factorization

@@ -17,7 +17,7 @@ use Rattle.definitions.specs.Table.{tableOf, rankOfNumber, kindOf, numberOf, ba
 use Rattle.lists.specs.Bools.{and-left, and-right, or-cases}
 use Rattle.lists.specs.Numbers.{least-before}
 use Rattle.lyndon.specs.Ranks.{rank-range}
-use Rattle.lyndon.specs.Reading.{Stored, table-length, table-filled, table-no-bad}
+use Rattle.lyndon.specs.Stored.{Stored, table-length, table-filled, table-no-bad}
 
 -- ---- the two kinds of rules
 

@@ -18,7 +18,7 @@ use Rattle.lists.specs.Decisions.{met, checked, refused-met}
 use Rattle.lists.specs.Serving.{refused-by}
 use Rattle.lyndon.specs.Ranks.{Bytes}
 use Rattle.lyndon.specs.Occurrences.{occurrences-fewer}
-use Rattle.lyndon.specs.Reading.{Stored, Acceptable, passes, table-text, table-size}
+use Rattle.lyndon.specs.Stored.{Stored, Acceptable, passes, table-text, table-size}
 use Rattle.motif_output.specs.Steps.{driveStep, motifStep}
 
 pub stored : (text : List ℕ) → length text ≤ 2047 → Bytes text → Stored text 0

@@ -13,7 +13,7 @@ use Rattle.definitions.specs.Table.{textOf, chairOf}
 use Rattle.definitions.specs.Services.{Outcome, refused, Check, Lent, workSlice, cleared, tableChecks, Serves}
 use Rattle.lists.specs.Decisions.{Passed, first-before}
 use Rattle.lists.specs.Serving.{by, Refuses, refused-by}
-use Rattle.lyndon.specs.Reading.{accepted-stored}
+use Rattle.lyndon.specs.Stored.{accepted-stored}
 use Rattle.layout.specs.Layout.{WORK}
 use Rattle.grammar.specs.Loaded.{Ready, rulesLoaded}
 use Rattle.opening.specs.Opening.{Opened, Admitted, turned-down, opened}

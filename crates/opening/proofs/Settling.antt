@@ -15,7 +15,7 @@ use Rattle.definitions.specs.Table.{textOf, chairOf, isTable, ruleCount}
 use Rattle.definitions.specs.Services.{cleared, workTooShort, tableLength, hasBadWord, notATable, tableChecks}
 use Rattle.lists.specs.Bools.{contra}
 use Rattle.lists.specs.Decisions.{met, later, none, more, refused-met, done-met}
-use Rattle.lyndon.specs.Reading.{accepted-table}
+use Rattle.lyndon.specs.Stored.{accepted-table}
 use Rattle.layout.specs.Layout.{WORK}
 use Rattle.grammar.specs.Loaded.{Loaded}
 use Rattle.tables.specs.Loading.{Judged}

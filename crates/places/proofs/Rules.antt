@@ -8,7 +8,7 @@ use native.Mathlib.Omega.{arith}
 use lib.ListN.{length, set, length-set}
 use Rattle.definitions.specs.Table.{tableOf}
 use Rattle.lists.specs.Parts.{part-set-before, part-set-behind}
-use Rattle.lyndon.specs.Reading.{table-size}
+use Rattle.lyndon.specs.Stored.{table-size}
 use Rattle.lyndon.specs.Shapes.{Shaped, stored-shaped}
 use Rattle.layout.specs.Layout.{TABLE}
 use Rattle.decoding.specs.declared.Rule.the-variants.{Symbol, Pair}

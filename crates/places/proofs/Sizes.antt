@@ -9,7 +9,7 @@ use lib.Seq.{getD-set-same, getD-set-other}
 use Rattle.definitions.specs.Table.{ruleString}
 use Rattle.lists.specs.Numbers.{split-lt}
 use Rattle.lyndon.specs.Ranks.{marked-length}
-use Rattle.lyndon.specs.Reading.{rule-range}
+use Rattle.lyndon.specs.Stored.{rule-range}
 use Rattle.layout.specs.Layout.{TABLE, LENGTHS, PLACES, lengthIn}
 use Rattle.grammar.specs.Loaded.{Ready}
 use Rattle.places.specs.Passes.{Contents, tableIn, rulesIn, Sizing}

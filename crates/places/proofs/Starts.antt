@@ -13,7 +13,7 @@ use Rattle.lists.specs.Lists.{split-same-left, split-same-right}
 use Rattle.lists.specs.Numbers.{split-lt}
 use Rattle.lists.specs.Parts.{part, part-length, part-append}
 use Rattle.lyndon.specs.Ranks.{marked-length}
-use Rattle.lyndon.specs.Reading.{rule-range}
+use Rattle.lyndon.specs.Stored.{rule-range}
 use Rattle.layout.specs.Layout.{PLACES, lengthIn, placeIn}
 use Rattle.places.specs.Places.{StandsAt, Placed}
 use Rattle.places.specs.Passes.{Contents, tableIn, rulesIn, Half, StandsIn, Stands, Sizing, Placing}

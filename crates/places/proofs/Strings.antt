@@ -12,7 +12,7 @@ use Rattle.definitions.specs.Table.{marked, tableOf, ruleString, spelled, ruleC
 use Rattle.lyndon.specs.Sequence.{order-all, order-half}
 use Rattle.lyndon.specs.Ranks.{marked-lyndon}
 use Rattle.lyndon.specs.Tables.{Entry, one, two, entry}
-use Rattle.lyndon.specs.Reading.{Stored, storable, table-words, table-rules, table-strings, table-spelled}
+use Rattle.lyndon.specs.Stored.{Stored, storable, table-words, table-rules, table-strings, table-spelled}
 use Rattle.decoding.specs.declared.Rule.the-variants.{Pair}
 use Rattle.decoding.specs.Decoding.{ruleAt}
 use Rattle.decoding.proofs.Rules.{words-pair}

@@ -7,7 +7,7 @@ use lib.ListN.{length}
 use Rattle.definitions.specs.declared.Order.{Order}
 use Rattle.definitions.specs.Table.{marked, tableOf, ruleString, ruleCount}
 use Rattle.lists.specs.Parts.{part}
-use Rattle.lyndon.specs.Reading.{Stored}
+use Rattle.lyndon.specs.Stored.{Stored}
 use Rattle.layout.specs.Layout.{TABLE, WORK, lengthIn, placeIn}
 
 -- ranks and table of a text, as loading left them

@@ -18,7 +18,7 @@ use Rattle.lists.specs.Numbers.{split-lt}
 use Rattle.lists.specs.Parts.{part, part-at}
 use Rattle.lyndon.specs.Joins.{occurrences-join}
 use Rattle.lyndon.specs.Occurrences.{occurrences-most, longer-nowhere}
-use Rattle.lyndon.specs.Reading.{rule-range}
+use Rattle.lyndon.specs.Stored.{rule-range}
 use Rattle.layout.specs.Layout.{TABLE, FOUND, FLAGS, PACK, Readable, lengthIn, placeIn, countIn}
 use Rattle.decoding.specs.declared.Rule.the-variants.{Pair}
 use Rattle.decoding.specs.Decoding.{ruleIn}

@@ -12,7 +12,7 @@ use Rattle.definitions.specs.Table.{marked, tableOf, ruleString, leftHalf, righ
 use Rattle.lists.specs.Parts.{part, part-part, part-agree}
 use Rattle.lyndon.specs.Factorization.{Std}
 use Rattle.lyndon.specs.Ranks.{marked-length}
-use Rattle.lyndon.specs.Reading.{rule-range, table-accepted}
+use Rattle.lyndon.specs.Stored.{rule-range, table-accepted}
 use Rattle.lyndon.specs.Pairs.{pair-halves}
 use Rattle.layout.specs.Layout.{TABLE, LENGTHS, PLACES, FOUND, lengthIn, placeIn}
 use Rattle.places.specs.Places.{StandsAt, Placed}

@@ -17,7 +17,7 @@ use Rattle.lists.specs.Parts.{part, part-at, part-front, lent-length, lent-befo
 use Rattle.lyndon.specs.Cuts.{live-cut}
 use Rattle.lyndon.specs.Joins.{triedCuts, tried-live}
 use Rattle.lyndon.specs.Ranks.{slice-bytes}
-use Rattle.lyndon.specs.Reading.{table-spelled}
+use Rattle.lyndon.specs.Stored.{table-spelled}
 use Rattle.lyndon.specs.Occurrences.{occurrences-marked}
 use Rattle.layout.specs.Layout.{TABLE, FOUND, FLAGS, countIn}
 use Rattle.cuts.specs.Flags.{patternFlags}

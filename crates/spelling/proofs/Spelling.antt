@@ -14,7 +14,7 @@ use Rattle.definitions.specs.Words.{placed}
 use Rattle.definitions.specs.Table.{rankOf, byteOf, rankOfNumber, marked, ruleString, spelled, textOf, isTable, ruleCount}
 use Rattle.lists.specs.Lists.{placed-more}
 use Rattle.lyndon.specs.Ranks.{Bytes, rank-range, byte-of-rank}
-use Rattle.lyndon.specs.Reading.{accepted-stored, accepted-spelled}
+use Rattle.lyndon.specs.Stored.{accepted-stored, accepted-spelled}
 use Rattle.lyndon.specs.Shapes.{Shaped}
 use Rattle.decoding.specs.declared.Rule.{Rule}
 use Rattle.decoding.specs.declared.Rule.the-variants.{Symbol, Pair}

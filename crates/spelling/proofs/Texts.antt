@@ -11,7 +11,7 @@ use Rattle.lists.specs.Members.{at-in, in-map, take-map, drop-map}
 use Rattle.lists.specs.Parts.{part, part-taken, part-at, part-part}
 use Rattle.lyndon.specs.Forest.{longest, longests, longest-fits, longest-most}
 use Rattle.lyndon.specs.Ranks.{Bytes, rank-range, bytes-back, slice-bytes, marked-length, marked-lyndon}
-use Rattle.lyndon.specs.Reading.{table-length, rule-range, table-accepted, table-text}
+use Rattle.lyndon.specs.Stored.{table-length, rule-range, table-accepted, table-text}
 use Rattle.lyndon.specs.Shapes.{Shaped, stored-shaped}
 use Rattle.layout.specs.Layout.{LONGEST, TABLE}
 use Rattle.grammar.specs.Loaded.{Ready}

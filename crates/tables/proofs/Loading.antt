@@ -17,7 +17,7 @@ use Rattle.lists.specs.Bools.{contra, not-so}
 use Rattle.lists.specs.Members.{at-in, in-at, in-map}
 use Rattle.lists.specs.Parts.{part-length, part-at}
 use Rattle.lyndon.specs.Ranks.{Bytes, rank-of-byte, byte-range, rank-range, is-drive, marked-length}
-use Rattle.lyndon.specs.Reading.{Stored, accepted-stored, accepted-spelled}
+use Rattle.lyndon.specs.Stored.{Stored, accepted-stored, accepted-spelled}
 use Rattle.lyndon.specs.Shapes.{string-ranks, chair-small}
 use Rattle.layout.specs.Layout.{TABLE}
 use Rattle.grammar.specs.Loaded.{Marked, Loaded, loaded-words, rules-most}

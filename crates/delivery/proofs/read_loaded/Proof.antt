@@ -7,7 +7,7 @@ use borrow.Author.Needs.{needs}
 use Rattle.definitions.specs.Table.{chairOf}
 use Rattle.definitions.specs.Services.{done, readOutcome}
 use Rattle.lists.specs.Serving.{restated}
-use Rattle.lyndon.specs.Reading.{table-chair}
+use Rattle.lyndon.specs.Stored.{table-chair}
 use Rattle.results.proofs.Chairs.{chair-refused, chair-done}
 use Rattle.spelling.proofs.Texts.{loaded-table, loaded-root}
 use Rattle.delivery.proofs.read_loaded.Statement.{statement}

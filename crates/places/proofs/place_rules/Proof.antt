@@ -2,7 +2,7 @@
 use Prim.Native.Nat.{_≤_, _<_}
 use native.Mathlib.Omega.{arith}
 use borrow.Author.Needs.{needs}
-use Rattle.lyndon.specs.Reading.{rule-range}
+use Rattle.lyndon.specs.Stored.{rule-range}
 use Rattle.places.proofs.Sizes.{contents, size-start}
 use Rattle.places.proofs.Starts.{place-start, place-end}
 use Rattle.places.proofs.place_rules.Statement.{statement}

@@ -5,7 +5,7 @@ use Prim.Native.Nat.{ℕ, _-_, _≤_, _<_}
 use native.Mathlib.Omega.{arith}
 use lib.ListN.{take, drop}
 use borrow.Author.Needs.{needs}
-use Rattle.lyndon.specs.Reading.{rule-range}
+use Rattle.lyndon.specs.Stored.{rule-range}
 use Rattle.layout.specs.Layout.{FLAGS}
 use Rattle.places.specs.Places.{Placed}
 use Rattle.search.specs.Searching.{Counting}

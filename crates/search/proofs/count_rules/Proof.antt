@@ -3,7 +3,7 @@ use mathlib.Core.Path.{_≡_, refl, _∙_, subst}
 use Prim.Native.Nat.{ℕ, _-_, _≤_, _<_}
 use native.Mathlib.Omega.{arith}
 use lib.ListN.{length}
-use Rattle.lyndon.specs.Reading.{rule-range}
+use Rattle.lyndon.specs.Stored.{rule-range}
 use Rattle.search.specs.Searching.{Counting}
 use Rattle.search.proofs.Counting.{Counted, counted-turn}
 use Rattle.search.proofs.count_rules.Statement.{statement}
