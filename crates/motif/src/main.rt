@@ -18,17 +18,8 @@ fn main() {
         );
         return;
     }
-    let mut work = [0u32; 16384];
-    let mut table = [0u32; 4608];
-    let mut positions = [0u32; 2047];
     let mut out = [0u8; 24576];
-    let m = answer(
-        &input[0..n],
-        &mut work,
-        &mut table,
-        &mut positions,
-        &mut out,
-    );
+    let m = answer(&input[0..n], &mut out);
     if !io::write_all(STDOUT_FILENO, &out[0..m]) {
         io::write_all(
             STDERR_FILENO,

@@ -14,37 +14,27 @@ ghost use Rattle.lists.specs.Decisions.{checked};
 ghost use Rattle.motif_output.specs.Steps.{driveStep, motifStep, Built, searchOutput};
 
 // Writes what the program prints at the front of `out`, and answers how many bytes that is.
-pub fn answer(
-    input: &[u8],
-    work: &mut [u32],
-    table: &mut [u32],
-    positions: &mut [u32],
-    out: &mut [u8],
-) -> usize
-    requires { ⌜ (16384 ≤ length (now work)) × (4608 ≤ length (now table)) × (2047 ≤ length (now positions)) × (24576 ≤ length (now out)) ⌝ }
+pub fn answer(input: &[u8], out: &mut [u8]) -> usize
+    requires { ⌜ 24576 ≤ length (now out) ⌝ }
     ensures { λ n. ⌜ n ≡ length (motifOutput sampleOrder (now (input .entry))) ⌝ }
     ensures { λ _. ⌜ now (out .exit) ≡ placed (motifOutput sampleOrder (now (input .entry))) (now (out .entry)) ⌝ }
 {
-    let a = build_drive(input, work, table);
+    let mut table = [0u32; 4608];
+    let a = build_drive(input, &mut table);
     let Answer::Done(words) = a else {
         return put_refusal(a, out);
     };
-    answer_built(input, &table[0..words], work, positions, out)
+    answer_built(input, &table[0..words], out)
 }
 
 // The same, once the drive's table is built.
-fn answer_built(
-    input: &[u8],
-    table: &[u32],
-    work: &mut [u32],
-    positions: &mut [u32],
-    out: &mut [u8],
-) -> usize
-    requires { ⌜ Built (now input) (now table) × (16384 ≤ length (now work)) × (2047 ≤ length (now positions)) × (24576 ≤ length (now out)) ⌝ }
+fn answer_built<'a>(input: &'a [u8], table: &'a [u32], out: &mut [u8]) -> usize
+    requires { ⌜ Built (now input) (now table) × (24576 ≤ length (now out)) ⌝ }
     ensures { λ n. ⌜ n ≡ length (searchOutput sampleOrder (now (input .entry))) ⌝ }
     ensures { λ _. ⌜ now (out .exit) ≡ placed (searchOutput sampleOrder (now (input .entry))) (now (out .entry)) ⌝ }
 {
-    let a = locate_motif(input, table, work, positions);
+    let mut positions = [0u32; 2047];
+    let a = locate_motif(input, table, &mut positions);
     let Answer::Done(n) = a else {
         return put_refusal(a, out);
     };
@@ -52,8 +42,8 @@ fn answer_built(
 }
 
 // Builds the drive's table. Refuses by 1.
-fn build_drive(input: &[u8], work: &mut [u32], table: &mut [u32]) -> Answer
-    requires { ⌜ (16384 ≤ length (now work)) × (4608 ≤ length (now table)) ⌝ }
+fn build_drive(input: &[u8], table: &mut [u32]) -> Answer
+    requires { ⌜ 4608 ≤ length (now table) ⌝ }
     ensures { λ r. ⌜ Serves (driveStep sampleOrder (now (input .entry)) (now (table .entry))) (Answers r) (now (table .exit) ∷ []) ⌝ }
 {
     let size = input_fits(input);
@@ -61,7 +51,8 @@ fn build_drive(input: &[u8], work: &mut [u32], table: &mut [u32]) -> Answer
         return size;
     };
     let from = drive_start(input);
-    index::build(&input[from..], 0, work, table)
+    let mut work = [0u32; 16384];
+    index::build(&input[from..], 0, &mut work, table)
 }
 
 // Refusal 1 of an input, or its length.
@@ -76,12 +67,13 @@ fn input_fits(input: &[u8]) -> Answer
 }
 
 // Lists where the motif begins in the drive, whose table is handed over. Refuses by 2 and 3.
-fn locate_motif(input: &[u8], table: &[u32], work: &mut [u32], positions: &mut [u32]) -> Answer
-    requires { ⌜ Built (now input) (now table) × (16384 ≤ length (now work)) × (2047 ≤ length (now positions)) ⌝ }
+fn locate_motif<'a>(input: &'a [u8], table: &'a [u32], positions: &mut [u32]) -> Answer
+    requires { ⌜ Built (now input) (now table) × (2047 ≤ length (now positions)) ⌝ }
     ensures { λ r. ⌜ Serves (motifStep (now (input .entry)) (now (positions .entry))) (Answers r) (now (positions .exit) ∷ []) ⌝ }
 {
     let end = motif_length(input);
-    let found = index::locate(table, &input[0..end], work, positions);
+    let mut work = [0u32; 16384];
+    let found = index::locate(table, &input[0..end], &mut work, positions);
     found.answer
 }
 

@@ -14,38 +14,36 @@ returns : tie.Need-returns
 returns c =
     let r = c .before .before in
     let told = r .before .before in
-    let b = told .before .before .before .before .before .before in
-    let s = b .before .before .before .before .before .before .before .before in
-    let e = drive-refused (s .args .input .now) (b .build-drive .result) (s .args .table .now) (b .build-drive .last .1 .1 .0) (b .build-drive .ensures) _ _ (told .enum-told .given .1) in
+    let b = told .before .before .before in
+    let s = b .before .before .before .before in
+    let e = drive-refused (s .args .input .now) (b .build-drive .result) _ (b .build-drive .last .1 .0) (b .build-drive .ensures) _ _ (told .enum-told .given .1) in
     (r .put-refusal .ensures .0 ∙ ap length e, r .put-refusal .ensures .1 ∙ ap (λ (x : List ℕ). placed x (s .args .out .now)) e)
 
 part-answer-built-end : tie.Need-part-answer-built-end
 part-answer-built-end c =
     let a = c .before .before in
-    let b = a .before .before .before .before .before .before in
-    let s = b .before .before .before .before .before .before .before .before in
-    drive-done (s .args .input .now) (b .build-drive .result) (s .args .table .now) (b .build-drive .last .1 .1 .0) (b .build-drive .ensures) _ (a .a .given .1) .0
+    let b = a .before .before .before in
+    let s = b .before .before .before .before in
+    omega (arith, drive-done (s .args .input .now) (b .build-drive .result) _ (b .build-drive .last .1 .0) (b .build-drive .ensures) _ (a .a .given .1) .0)
 
 answer-built-requires : tie.Need-answer-built-requires
 answer-built-requires c κs =
-    let a = c .before .before .before .before .before .before in
-    let b = a .before .before .before .before .before .before in
-    let s = b .before .before .before .before .before .before .before .before in
-    let built = drive-done (s .args .input .now) (b .build-drive .result) (s .args .table .now) (b .build-drive .last .1 .1 .0) (b .build-drive .ensures) _ (a .a .given .1) in
-    (built .1, omega (arith, b .build-drive .kept .1 .0), s .pre .2, s .pre .3)
+    let a = c .before .before .before .before in
+    let b = a .before .before .before in
+    let s = b .before .before .before .before in
+    (drive-done (s .args .input .now) (b .build-drive .result) _ (b .build-drive .last .1 .0) (b .build-drive .ensures) _ (a .a .given .1) .1, s .pre)
 
 returns-2 : tie.Need-returns-2
 returns-2 c =
-    let r = c .before .before .before .before .before .before in
-    let a = r .before .before .before .before .before .before .before in
-    let b = a .before .before .before .before .before .before in
-    let s = b .before .before .before .before .before .before .before .before in
-    let e = drive-done (s .args .input .now) (b .build-drive .result) (s .args .table .now) (b .build-drive .last .1 .1 .0) (b .build-drive .ensures) _ (a .a .given .1) .2 in
+    let r = c .before .before in
+    let a = r .before .before .before .before .before in
+    let b = a .before .before .before in
+    let s = b .before .before .before .before in
+    let e = drive-done (s .args .input .now) (b .build-drive .result) _ (b .build-drive .last .1 .0) (b .build-drive .ensures) _ (a .a .given .1) .2 in
     (r .answer-built .ensures .0 ∙ ap length e, r .answer-built .ensures .1 ∙ ap (λ (x : List ℕ). placed x (s .args .out .now)) e)
 
 pub answer-spec : {M : Type 1} → statement M
 answer-spec =
     tie.close
-    (tie.spec (λ c κs. search needs) (λ c. search needs) (λ c. search needs) (λ c κs. search needs) (λ c. search needs) (λ c. search needs)
-    (λ c. search needs) returns (λ c. search needs) (λ c. search needs) part-answer-built-end answer-built-requires (λ c. search needs)
-    (λ c. search needs) (λ c. search needs) (λ c. search needs) returns-2)
+    (tie.spec (λ c. search needs) (λ c κs. search needs) (λ c. search needs) (λ c. search needs) (λ c κs. search needs) (λ c. search needs) returns
+    (λ c. search needs) (λ c. search needs) part-answer-built-end answer-built-requires (λ c. search needs) returns-2)

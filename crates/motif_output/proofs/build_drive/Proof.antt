@@ -17,25 +17,25 @@ use Rattle.motif_output.proofs.build_drive.Tie as tie
 returns : tie.Need-returns
 returns c =
     let f = c .before .before in
-    let a = f .before .before .before .before .args in
+    let a = f .before .before .before .args in
     drive-long sampleOrder (a .input .now) (a .table .now) (f .input-fits .result) (f .input-fits .ensures) (c .enum-told2 .given .1)
 
 returns-2 : tie.Need-returns-2
 returns-2 c =
-    let b = c .before .before .before .before in
+    let b = c .before .before .before in
     let d = b .before .before .before .before in
     let f = d .before .before .before in
-    let k = f .before .before .before in
+    let k = f .before .before in
     let s = k .before in
     let input = s .args .input .now in
     let from = d .drive-start .result in
     let short = ltb-false 4095 (length input) (done-met (inputTooLong input) (length input) (f .input-fits .ensures) (d .before .enum-told .given .1) .0) in
     let text = take-all (length input - from) (drop from input) (omega (arith, length-drop from input)) ∙ d .drive-start .ensures .1 in
     let bytes = drive-bytes input (λ i h. omega (arith, k .shared-slice-known .given i)) in
-    drive-built sampleOrder input (s .args .table .now) (s .args .work .now) (s .pre .0) (s .pre .1) short bytes (take (length input - from) (drop from input)) (b .build .last .1 .1 .0) (b .build .last .1 .1 .1 .0) (b .build .result) text (b .build .ensures)
+    drive-built sampleOrder input (s .args .table .now) _ (omega arith) (s .pre) short bytes (take (length input - from) (drop from input)) (b .build .last .1 .1 .0) (b .build .last .1 .1 .1 .0) (b .build .result) text (b .build .ensures)
 
 pub build-drive-spec : {M : Type 1} → statement M
 build-drive-spec =
     tie.close
     (tie.spec (λ c κs. search needs) (λ c. search needs) (λ c. search needs) returns (λ c κs. search needs) (λ c. search needs) (λ c. search needs)
-    (λ c. search needs) (λ c κs. search needs) (λ c. search needs) (λ c. search needs) returns-2)
+    (λ c. search needs) (λ c. search needs) (λ c κs. search needs) (λ c. search needs) returns-2)

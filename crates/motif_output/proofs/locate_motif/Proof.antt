@@ -12,24 +12,24 @@ use Rattle.motif_output.proofs.locate_motif.Tie as tie
 
 part-locate-end : tie.Need-part-locate-end
 part-locate-end c =
-    let input = c .before .before .before .before .before .args .input .now in
+    let input = c .before .before .before .before .args .input .now in
     omega (arith, c .motif-length .ensures, motif-fits input)
 
 returns : tie.Need-returns
 unfolding searchOutcome
 returns c =
-    let l = c .before .before .before .before in
+    let l = c .before .before .before in
     let m = l .before .before .before .before in
-    let k = m .before .before .before .before in
+    let k = m .before .before .before in
     let s = k .before in
     let input = s .args .input .now in
     let motif = motif-taken input (m .motif-length .result) (m .motif-length .ensures) in
     let bytes = drive-bytes input (λ i h. omega (arith, k .shared-slice-known .given i)) in
     let ok = stored (driveOf input) (s .pre .0 .short) bytes in
-    motif-located sampleOrder input (s .args .positions .now) (s .args .work .now) (s .pre .1) (s .pre .2) ok (s .args .table .now) (take (m .motif-length .result - 0) input) (l .locate .last .1 .1 .0) (l .locate .last .1 .1 .1 .0) _ (s .pre .0 .table) motif (l .locate .ensures)
+    motif-located sampleOrder input (s .args .positions .now) _ (omega arith) (s .pre .1) ok (s .args .table .now) (take (m .motif-length .result - 0) input) (l .locate .last .1 .1 .0) (l .locate .last .1 .1 .1 .0) _ (s .pre .0 .table) motif (l .locate .ensures)
 
 pub locate-motif-spec : {M : Type 1} → statement M
 locate-motif-spec =
     tie.close
-    (tie.spec (λ c κs. search needs) (λ c. search needs) (λ c. search needs) part-locate-end (λ c κs. search needs) (λ c. search needs)
-    (λ c. search needs) returns)
+    (tie.spec (λ c κs. search needs) (λ c. search needs) (λ c. search needs) part-locate-end (λ c. search needs) (λ c κs. search needs) (λ c. search needs)
+    returns)
