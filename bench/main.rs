@@ -90,19 +90,13 @@ fn main() {
     let (service, family, size) = (args[2].clone(), number(3), number(4));
     let text = texts::text(family, size.min(2047));
     let table = if service == "doubling" { doubling(size as u32) } else { table_of(&text) };
-    let pattern = middle(&text, number(5));
+    let pattern = texts::middle(&text, number(5));
     let given = Given { service, text, table, pattern };
     let mut lent = lent();
     let measured = if args[1] == "library" { measured_library } else { measured_rust };
     let answer = measured(&given, &mut lent);
     let (work, words, bytes) = (checksum(&lent.work), checksum(&lent.words), checksum(&lent.bytes));
     println!("{} {} {answer:?} {work} {words} {bytes}", given.service, texts::FAMILIES[family]);
-}
-
-/// The m samples in the middle of a text.
-fn middle(text: &[u8], m: usize) -> Vec<u8> {
-    let start = (text.len() - m) / 2;
-    text[start..start + m].to_vec()
 }
 
 fn table_of(text: &[u8]) -> Vec<u32> {

@@ -1,4 +1,4 @@
-//! Eight families of texts, and one that is slow to list the live cuts of.
+//! Eight families of texts, one that is slow to list the live cuts of, and drives of a switch joystick.
 
 /// A small generator of numbers, the same in every run.
 struct Numbers(u64);
@@ -12,7 +12,7 @@ impl Numbers {
     }
 }
 
-pub const FAMILIES: [&str; 9] = [
+pub const FAMILIES: [&str; 10] = [
     "random bytes",
     "two symbols",
     "rests and ramps",
@@ -22,6 +22,7 @@ pub const FAMILIES: [&str; 9] = [
     "(a^31 b)^j",
     "Fibonacci",
     "falling pairs",
+    "nine headings",
 ];
 
 fn repeated(unit: &[u8], n: usize) -> Vec<u8> {
@@ -65,6 +66,23 @@ fn falling(n: usize) -> Vec<u8> {
     std::iter::once(0).chain(pairs.flatten()).take(n).collect()
 }
 
+/// A switch joystick, 0 for rest and 1 to 8 for headings: rests of 10 to 69 samples, and between them 1 to 6 headings, each held for 5 to 44 samples,
+/// the next one beside the one before. The last 10 samples are at rest.
+fn headings(n: usize, numbers: &mut Numbers) -> Vec<u8> {
+    let mut s = Vec::new();
+    while s.len() < n {
+        s.extend(vec![0u8; 10 + numbers.next(60) as usize]);
+        let mut heading = numbers.next(8) as u8;
+        for _ in 0..1 + numbers.next(6) {
+            s.extend(vec![1 + heading; 5 + numbers.next(40) as usize]);
+            heading = (heading + if numbers.next(2) == 0 { 1 } else { 7 }) % 8;
+        }
+    }
+    s.truncate(n);
+    s[n.saturating_sub(10)..].fill(0);
+    s
+}
+
 /// The text of n samples of a family.
 pub fn text(family: usize, n: usize) -> Vec<u8> {
     let mut numbers = Numbers(88172645463325252);
@@ -77,6 +95,13 @@ pub fn text(family: usize, n: usize) -> Vec<u8> {
         5 => repeated(&run((n - 3) / 2), n),
         6 => repeated(&run(31), n),
         7 => fibonacci(n),
-        _ => falling(n),
+        8 => falling(n),
+        _ => headings(n, &mut numbers),
     }
+}
+
+/// The m samples in the middle of a text.
+pub fn middle(text: &[u8], m: usize) -> Vec<u8> {
+    let start = (text.len() - m) / 2;
+    text[start..start + m].to_vec()
 }
