@@ -8,7 +8,8 @@
  *   - each pointer is valid for its length, and a pointer to words is aligned to 4 bytes;
  *   - the work slice and the result slice overlap neither each other nor an input.
  * Everything else is checked. Inputs are never written, nothing is allocated and nothing is kept between calls, so threads may call at the
- * same time, each with slices of its own. Reading back and locating take up to 240 KiB of stack, every other service less than 2 KiB.
+ * same time, each with slices of its own. Reading back and locating take up to 240 KiB of stack, every other service less than 2 KiB: some C
+ * libraries give a thread 128 KiB, so a thread that reads back or locates is started with more (pthread_attr_setstacksize).
  *
  * A reply's number is 0 on success; otherwise it is the first of these that is met and concerns the service:
  *
@@ -38,6 +39,13 @@
 #ifdef __cplusplus
 extern "C" {
 #endif
+
+/*
+ * The number of this interface. It goes up whenever a function's parameters or a reply change; the soname of the shared library ends with it. A program
+ * that may meet another library than this header's compares the number with what sirbolta_interface answers, before any other call.
+ */
+#define SIRBOLTA_INTERFACE 1
+uint32_t sirbolta_interface(void);
 
 typedef struct { uint32_t number; uint32_t chair; uint64_t place; uint64_t count; } sirbolta_reply;
 

@@ -1,4 +1,4 @@
-/* The header as C sees it: the layout of the replies, and one call of each function. */
+/* The header as C sees it: the layout of the replies, the interface number, and one call of each function. */
 #include "../include/sirbolta.h"
 
 #include <stdio.h>
@@ -39,6 +39,7 @@ static int found(sirbolta_search_reply r, uint32_t number, uint64_t place, uint6
 
 int main(void) {
     const uint8_t text[4] = {97, 98, 97, 98};
+    want("interface", sirbolta_interface() == SIRBOLTA_INTERFACE);
     want("build", is(sirbolta_build(text, 4, 40, work, WORK, words, WORDS), 0, 0, WORDS, 0) && memcmp(words, abab, sizeof abab) == 0);
     want("check", is(sirbolta_check(abab, WORDS, work, WORK), 0, 0, 6, 0));
     want("read", is(sirbolta_read(abab, WORDS, work, WORK, samples, 4), 0, 0, 4, 40) && memcmp(samples, text, 4) == 0);
@@ -47,6 +48,6 @@ int main(void) {
     want("locate", found(sirbolta_locate(abab, WORDS, text, 2, work, WORK, words, 2), 0, 0, 2) && words[0] == 0 && words[1] == 2);
     want("live_cuts", is(sirbolta_live_cuts(text, 4, words, 1), 0, 0, 1, 0) && words[0] == 2);
     want("a null table", is(sirbolta_check(NULL, 0, work, WORK), 5, 0, 0, 0));
-    if (!wrong) printf("header: 8 calls from C are right\n");
+    if (!wrong) printf("header: 9 calls from C are right\n");
     return wrong;
 }

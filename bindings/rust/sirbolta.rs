@@ -5,10 +5,15 @@
 //! The work slice needs `WORK` words, the result slice as many entries as the result has; what they held before plays no part. On success the result
 //! stands at the front of the result slice and the rest is as it was; after a refusal all of it is as it was. The work slice is as it was after the
 //! refusals 1 to 6; after the others and success its first `WORK` words are 0 and the rest is as it was. Reading back and locating take up to
-//! 240 KiB of stack, every other service less than 2 KiB.
+//! 240 KiB of stack, every other service less than 2 KiB: a thread that reads back or locates wants a stack above that, as Rust's own have.
+//!
+//! A program with a library of another interface number ends before `main` and says so.
 #![allow(dead_code)]
 
 use std::fmt;
+
+/// The number of the interface that this module is made for.
+pub const INTERFACE: u32 = 1;
 
 /// The words that a work slice needs.
 pub const WORK: usize = 16_384;
@@ -163,6 +168,19 @@ fn found(reply: SearchReply) -> Result<usize, Refusal> {
     }
 }
 
+/// The loader calls what stands in this section before `main`.
+#[used]
+#[link_section = ".init_array"]
+static BEFORE_MAIN: extern "C" fn() = same_interface;
+
+extern "C" fn same_interface() {
+    let number = unsafe { sirbolta_interface() };
+    if number != INTERFACE {
+        eprintln!("the interface number of the library is {number}, that of the module {INTERFACE}");
+        std::process::abort();
+    }
+}
+
 #[repr(C)]
 struct Reply {
     number: u32,
@@ -181,6 +199,7 @@ struct SearchReply {
 
 #[rustfmt::skip]
 unsafe extern "C" {
+    fn sirbolta_interface() -> u32;
     fn sirbolta_build(text: *const u8, text_len: usize, chair: u16, work: *mut u32, work_len: usize, result: *mut u32, result_len: usize) -> Reply;
     fn sirbolta_check(table: *const u32, table_len: usize, work: *mut u32, work_len: usize) -> Reply;
     fn sirbolta_read(table: *const u32, table_len: usize, work: *mut u32, work_len: usize, result: *mut u8, result_len: usize) -> Reply;

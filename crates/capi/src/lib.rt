@@ -5,9 +5,18 @@ use definitions::SearchReply;
 use replies::replied;
 use replies::replied_read;
 use replies::replied_search;
+ghost use mathlib.Core.Path.{_≡_};
 ghost use mathlib.Core.List.{[], _∷_};
 ghost use Rattle.definitions.specs.Services.{Serves, sampleOrder, buildService, checkService, readService, extractService, countService, locateService, cutsService};
-ghost use Rattle.definitions.specs.Replies.{Replies, SearchReplies};
+ghost use Rattle.definitions.specs.Replies.{Replies, SearchReplies, interfaceNumber};
+
+// The number of this interface, by which a program can tell another library from its own.
+#[no_mangle]
+pub extern "C" fn sirbolta_interface() -> u32
+    ensures { λ r. ⌜ r ≡ interfaceNumber ⌝ }
+{
+    1
+}
 
 // Builds the table of a text and a chair number: `index::build`.
 #[no_mangle]

@@ -1,4 +1,5 @@
--- A reply's four numbers, each under its own name, and the outcome that a reply stands for.
+-- A reply's four numbers, each under its own name, and the outcome that a reply stands for; and the number of the interface.
+use Prim.Native.Nat.{ℕ}
 use mathlib.Core.Path.{_≡_}
 use Rattle.definitions.specs.Services.{Numbers, Outcome, numbersOf}
 use Rattle.definitions.specs.declared.Reply.{Reply}
@@ -15,3 +16,7 @@ Replies r o = replyNumbers r ≡ numbersOf o
 
 abbrev pub SearchReplies : SearchReply → Outcome → Type 0
 SearchReplies r o = searchNumbers r ≡ numbersOf o
+
+-- goes up with every change of a signature or a struct of the interface to C
+abbrev pub interfaceNumber : ℕ
+interfaceNumber = 1
