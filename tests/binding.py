@@ -1,12 +1,19 @@
-"""Tests the Python module: the cases of a vector file, every refusal of every service, other values and types, threads. `binding.py FILE`."""
+"""Tests the Python package: the cases of a vector file with every kind of table, every refusal of every service, other values and types, threads and their
+stacks, the examples. `binding.py FILE`."""
 
+import copy
+import ctypes
+import doctest
+import inspect
 import io
 import os
 import pickle
 import shutil
+import sqlite3
 import subprocess
 import sys
 import tempfile
+import threading
 import unittest
 from array import array
 from concurrent.futures import ThreadPoolExecutor
@@ -14,12 +21,35 @@ from contextlib import nullcontext
 from pathlib import Path
 from unittest.mock import patch
 
-MODULE = Path(__file__).resolve().parent.parent / "bindings" / "python"
+ROOT = Path(__file__).resolve().parent.parent
+MODULE = ROOT / "bindings" / "python"
 sys.path.insert(0, str(MODULE))
 
 import sirbolta  # noqa: E402
 
 AGREED = {}
+
+
+def unaligned(words) -> memoryview:
+    """The same words as bytes that begin behind a multiple of four."""
+    return memoryview(b"?" + bytes(array("I", words)))[1:]
+
+
+def apart(words) -> memoryview:
+    """The same words with a word between any two."""
+    return memoryview(array("I", [word for each in words for word in (each, 0)]))[::2]
+
+
+KINDS = {
+    "list": list,
+    "Table": sirbolta.Table,
+    "bytes": lambda words: bytes(array("I", words)),
+    "bytearray": lambda words: bytearray(array("I", words)),
+    "array": lambda words: array("I", words),
+    "ctypes": lambda words: (ctypes.c_uint32 * len(words))(*words),
+    "unaligned": unaligned,
+    "apart": apart,
+}
 
 
 def entries(value: str, digits: int) -> list[int]:
@@ -42,13 +72,13 @@ def cases(file: str):
             yield case
 
 
-def asked(case: dict):
-    """What the module answers, as the count and the entries written."""
-    table = entries(case.get("arg table", "0/"), 8)
+def asked(case: dict, kind):
+    """What the module answers, as the count and the entries written, with the table handed over in one kind."""
+    table = kind(entries(case.get("arg table", "0/"), 8))
     motif = bytes(entries(case.get("arg motif", "0/"), 2))
     match case["call"]:
         case "build":
-            words = sirbolta.build(bytes(entries(case["arg drive"], 2)), int(case["arg chair"]))
+            words = sirbolta.build(bytes(entries(case["arg drive"], 2)), int(case["arg chair"])).words.tolist()
             return len(words), words
         case "check":
             return sirbolta.check(table), None
@@ -75,21 +105,25 @@ class Vectors(unittest.TestCase):
             want = dict(zip(*[iter(case["want"].split())] * 2))
             if want["no"] in "49":
                 continue
-            with self.subTest(case):
-                if want["no"] == "0":
-                    count = int(want["count"])
-                    answer, written = asked(case)
-                    self.assertEqual(answer, (count, int(want["chair"])) if "chair" in want else count)
-                    if written is not None:
-                        digits = 2 if case["call"] in ("read", "part") else 8
-                        front = case["after result"].removeprefix("front ").removeprefix("-")
-                        self.assertEqual(written, entries(f"{count}/0:{front}", digits))
-                else:
-                    with self.assertRaises(sirbolta.Refusal) as raised:
-                        asked(case)
-                    self.assertEqual((raised.exception.number, raised.exception.place), (int(want["no"]), int(want["place"])))
-                AGREED[case["call"]] = AGREED.get(case["call"], 0) + 1
+            for name in KINDS if "arg table" in case else ["list"]:
+                with self.subTest(case, kind=name):
+                    self.agrees(case, want, KINDS[name])
+            AGREED[case["call"]] = AGREED.get(case["call"], 0) + 1
         self.assertEqual(sorted(AGREED), ["build", "check", "count", "cuts", "list", "part", "read"])
+
+    def agrees(self, case, want, kind):
+        if want["no"] == "0":
+            count = int(want["count"])
+            answer, written = asked(case, kind)
+            self.assertEqual(answer, (count, int(want["chair"])) if "chair" in want else count)
+            if written is not None:
+                digits = 2 if case["call"] in ("read", "part") else 8
+                front = case["after result"].removeprefix("front ").removeprefix("-")
+                self.assertEqual(written, entries(f"{count}/0:{front}", digits))
+        else:
+            with self.assertRaises(sirbolta.Refusal) as raised:
+                asked(case, kind)
+            self.assertEqual((raised.exception.number, raised.exception.place), (int(want["no"]), int(want["place"])))
 
 
 class Refusals(unittest.TestCase):
@@ -108,9 +142,9 @@ class Refusals(unittest.TestCase):
         2: {"samples": bytearray()},
         3: {"samples": bytearray(2048)},
         4: {"_WORK": 16_383},
-        5: {"table": []},
-        6: {"table": [0, 0xC0000000, 257, 0xC0000000]},
-        7: {"table": [98, 0xC0000000]},
+        5: {"table": sirbolta.Table([])},
+        6: {"table": sirbolta.Table([0, 0xC0000000, 257, 0xC0000000])},
+        7: {"table": sirbolta.Table([98, 0xC0000000])},
         8: {"start": 4, "length": 1},
         9: {"_SAMPLES": 0, "_TABLE": 0},
     }
@@ -118,7 +152,7 @@ class Refusals(unittest.TestCase):
     def setUp(self):
         self.usual = {"table": sirbolta.build(b"aaaa", 40), "samples": bytearray(b"aa"), "chair": 40, "start": 0, "length": 3}
         self.answers = {
-            "build": [0, 0xC0000028, 98, 0xC0000000, 0x40000000, 0x80000001, 0x40000002, 0x80000001], "check": 6, "read": (b"aaaa", 40),
+            "build": sirbolta.Table([0, 0xC0000028, 98, 0xC0000000, 0x40000000, 0x80000001, 0x40000002, 0x80000001]), "check": 6, "read": (b"aaaa", 40),
             "extract": b"aaa", "count": 3, "locate": [0, 1, 2], "live_cuts": [1],
         }
 
@@ -173,6 +207,11 @@ class Module(unittest.TestCase):
             ("a word of a table is negative", lambda: sirbolta.check([0, -1])),
             ("start is negative", lambda: sirbolta.extract(self.table, -1, 2)),
             ("length is negative", lambda: sirbolta.extract(self.table, 2, -(10**5000))),
+            ("a table has four bytes a word, so not 47 bytes", lambda: sirbolta.check(bytes(self.table)[1:])),
+            ("a table has four bytes a word, so not 47 bytes", lambda: sirbolta.count(bytearray(bytes(self.table))[1:], b"ab")),
+            ("a table has four bytes a word, so not 47 bytes", lambda: sirbolta.locate(memoryview(bytes(self.table))[1:], b"ab")),
+            ("a table has four bytes a word, so not 1 bytes", lambda: sirbolta.Table(b"a")),
+            ("a table has four bytes a word, so not 1 bytes", lambda: sirbolta.Table(memoryview(b"abcd")[::4])),
         ]:
             with self.assertRaises(ValueError) as raised:
                 call()
@@ -186,20 +225,26 @@ class Module(unittest.TestCase):
         self.assertEqual(sirbolta.extract(self.table, 4, 0), b"")
 
     def test_other_types(self):
-        for table in ["", "abab", b"", b"abab", bytearray(), memoryview(b""), {}, dict.fromkeys(self.table), set(), frozenset(self.table), iter(self.table), None, 4]:
-            sentence = f"a table is a sequence of 32-bit words, not {type(table).__name__}"
+        words = self.table.words
+        for table in ["", "abab", {}, dict.fromkeys(words), set(), frozenset(words), iter(words), None, 4]:
+            sentence = f"a table is a Table, a buffer or a sequence of 32-bit words, not {type(table).__name__}"
+            self.wrong_type(sentence, sirbolta.Table, table)
             self.wrong_type(sentence, sirbolta.check, table)
             self.wrong_type(sentence, sirbolta.read, table)
             self.wrong_type(sentence, sirbolta.extract, table, 0, 0)
             self.wrong_type(sentence, sirbolta.count, table, b"ab")
             self.wrong_type(sentence, sirbolta.locate, table, b"ab")
-        for samples in ["", "abab", 4, [], [97, 98], None]:
+        for table in [array("i"), array("H"), array("Q"), array("f"), (ctypes.c_uint32.__ctype_be__ * 2)()]:
+            sentence = f"a table's buffer has single bytes or unsigned words of 32 bits, not the format {memoryview(table).format}"
+            self.wrong_type(sentence, sirbolta.Table, table)
+            self.wrong_type(sentence, sirbolta.check, table)
+        for samples in ["", "abab", 4, [], [97, 98], None, self.table]:
             sentence = f"samples are bytes, not {type(samples).__name__}"
             self.wrong_type(sentence, sirbolta.build, samples, 40)
             self.wrong_type(sentence, sirbolta.count, self.table, samples)
             self.wrong_type(sentence, sirbolta.locate, self.table, samples)
             self.wrong_type(sentence, sirbolta.live_cuts, samples)
-        self.wrong_type("samples are single bytes", sirbolta.build, memoryview(array("I")), 40)
+        self.wrong_type("samples are single bytes", sirbolta.build, array("I"), 40)
         for number in [True, False, 1.0, "1", None]:
             kind = type(number).__name__
             self.wrong_type(f"the chair number is a whole number, not {kind}", sirbolta.build, b"abab", number)
@@ -213,16 +258,16 @@ class Module(unittest.TestCase):
                 service(*arguments)
             self.assertEqual(str(raised.exception), sentence)
 
-    def test_inputs_of_other_kinds(self):
+    def test_samples_of_other_kinds(self):
         self.assertEqual(sirbolta.build(bytearray(b"abab"), 40), self.table)
         self.assertEqual(sirbolta.build(memoryview(b"xabab")[1:], 40), self.table)
-        self.assertEqual(sirbolta.locate(tuple(self.table), bytearray(b"ab")), [0, 2])
-        self.assertEqual(sirbolta.check(array("I", self.table)), 6)
+        self.assertEqual(sirbolta.build(memoryview(b"a?b?a?b?")[::2], 40), self.table)
+        self.assertEqual(sirbolta.locate(self.table, array("b", b"ab")), [0, 2])
 
     def test_largest(self):
         text = bytes(i // 8 for i in range(2047))
         table = sirbolta.build(text, 65_535)
-        self.assertEqual((len(table), sirbolta.check(table)), (4608, 2304))
+        self.assertEqual((len(table.words), sirbolta.check(table)), (4608, 2304))
         self.assertEqual(sirbolta.read(table), (text, 65_535))
         self.assertEqual(sirbolta.locate(sirbolta.build(bytes(2047), 0), b"\0"), list(range(2047)))
         self.assertEqual(sirbolta.live_cuts(bytes(2047)), list(range(1, 2047)))
@@ -243,12 +288,161 @@ class Module(unittest.TestCase):
         library = sirbolta._library._name
         self.assertEqual(imported(MODULE), "")
         self.assertIn("ImportError: SIRBOLTA_LIBRARY names no file: nowhere.so", imported(MODULE, SIRBOLTA_LIBRARY="nowhere.so"))
+        self.assertIn(f"ImportError: {__file__} is no library that can be loaded: ", imported(MODULE, SIRBOLTA_LIBRARY=__file__))
         with tempfile.TemporaryDirectory() as alone:
-            shutil.copy(MODULE / "sirbolta.py", alone)
+            shutil.copytree(MODULE / "sirbolta", Path(alone) / "sirbolta")
             self.assertIn("ImportError: no libsirbolta.so: run bindings/build", imported(alone))
             self.assertEqual(imported(alone, SIRBOLTA_LIBRARY=library), "")
-            shutil.copy(library, Path(alone) / "libsirbolta.so")
+            shutil.copy(library, Path(alone) / "sirbolta" / "libsirbolta.so")
             self.assertEqual(imported(alone), "")
+
+
+class Tables(unittest.TestCase):
+    WORDS = [0, 0xC0000028, 0x62, 0xC0000000, 0x63, 0xC0000000, 0x40000001, 0x80000002, 0x40000000, 0x80000003, 0x40000004, 0x80000003]
+    BYTES = b"".join(word.to_bytes(4, "little") for word in WORDS)
+
+    def setUp(self):
+        self.table = sirbolta.build(b"abab", 40)
+
+    def test_words_and_bytes(self):
+        self.assertEqual((bytes(self.table), self.table.words.tolist()), (self.BYTES, self.WORDS))
+        for name, kind in KINDS.items():
+            with self.subTest(kind=name):
+                self.assertEqual(bytes(sirbolta.Table(kind(self.WORDS))), self.BYTES)
+        self.assertEqual(repr(self.table), "<sirbolta.Table of 12 words>")
+
+    def test_each_method_is_the_function(self):
+        for service, arguments in [("check", ()), ("read", ()), ("extract", (1, 2)), ("count", (b"ab",)), ("locate", (b"ab",))]:
+            self.assertEqual(getattr(self.table, service)(*arguments), getattr(sirbolta, service)(self.table, *arguments))
+            with self.assertRaises(sirbolta.TableLength):
+                getattr(sirbolta.Table(b""), service)(*arguments)
+
+    def test_equal_if_their_words_are(self):
+        same, other = sirbolta.Table(bytearray(self.BYTES)), sirbolta.build(b"abab", 41)
+        self.assertTrue(same == self.table and hash(same) == hash(self.table) and not same != self.table)
+        self.assertTrue(other != self.table and self.table != self.BYTES)
+        self.assertEqual({self.table: 1, other: 2, same: 3}, {same: 3, other: 2})
+
+    def test_does_not_change(self):
+        source = bytearray(self.BYTES)
+        table = sirbolta.Table(source)
+        source[0] = 1
+        self.assertEqual(table, self.table)
+        for change in [
+            lambda: setattr(table, "_bytes", b""), lambda: setattr(table, "words", ()), lambda: setattr(table, "name", ""), lambda: delattr(table, "_bytes"),
+        ]:
+            self.assertRaisesRegex(AttributeError, "^a table does not change$", change)
+        with self.assertRaises(TypeError):
+            table.words[0] = 1
+        table.__init__(b"")
+        self.assertEqual(table, self.table)
+
+    def test_copied_and_pickled(self):
+        for protocol in range(pickle.HIGHEST_PROTOCOL + 1):
+            again = pickle.loads(pickle.dumps(self.table, protocol))
+            self.assertEqual((again, type(again)), (self.table, sirbolta.Table))
+        self.assertEqual([copy.copy(self.table), copy.deepcopy(self.table)], [self.table, self.table])
+
+    def test_in_a_database(self):
+        store = sqlite3.connect(":memory:")
+        store.execute("create table drives (words blob)")
+        store.execute("insert into drives values (?)", (self.table,))
+        self.assertEqual(store.execute("select typeof(words), words from drives").fetchall(), [("blob", self.BYTES)])
+        self.assertEqual(store.execute("select count(*) from drives where words = ?", (self.table,)).fetchone(), (1,))
+        store.close()
+
+
+class Lending(unittest.TestCase):
+    """What the library is handed: words where they stand, and the thread's own work slice."""
+
+    def setUp(self):
+        self.table = sirbolta.build(b"abab", 40)
+
+    def handed(self, table):
+        """The first argument of a call, its number of words, and the work slice."""
+        with patch.object(sirbolta._library, "sirbolta_count", wraps=sirbolta._library.sirbolta_count) as call:
+            self.assertEqual(sirbolta.count(table, b"ab"), 2)
+        start, length, _, _, work, _ = call.call_args.args
+        return start, length, work
+
+    def test_words_are_not_copied(self):
+        packed = bytes(self.table)
+        self.assertIs(self.handed(packed)[0], packed)
+        table = sirbolta.Table(packed)
+        self.assertIs(self.handed(table)[0], packed)
+        words = array("I", self.table.words)
+        address, length = words.buffer_info()
+        self.assertEqual(self.handed(words)[:2], (address, length))
+        self.assertEqual(self.handed(memoryview(words))[:2], (address, length))
+        self.assertEqual(self.handed(memoryview(words).toreadonly().cast("B"))[:2], (address, length))
+        self.assertEqual(self.handed(memoryview(array("I", [0]) + words)[1:])[1], length)
+        self.assertEqual(words, array("I", self.table.words), "an input was written")
+
+    def test_words_that_cannot_be_read_where_they_stand_are_copied(self):
+        for kind in unaligned, apart:
+            start, length, _ = self.handed(kind(self.table.words))
+            self.assertEqual((start, length), (bytes(self.table), 12))
+
+    def test_a_buffer_is_given_back(self):
+        words = bytearray(bytes(self.table))
+        self.assertEqual(sirbolta.count(words, b"ab"), 2)
+        words += b"longer"
+
+    def test_one_work_slice_a_thread(self):
+        works = [self.handed(self.table)[2] for _ in range(2)]
+        with ThreadPoolExecutor(1) as pool:
+            works += [pool.submit(lambda: sirbolta._this_thread.work).result() for _ in range(2)]
+        self.assertTrue(works[0] is works[1] and works[2] is works[3] and works[0] is not works[2])
+
+
+class Stacks(unittest.TestCase):
+    """`read` and `locate` on threads with less stack than they take."""
+
+    TEXTS = [b"a" * 2047, b"a" * 2046 + b"b", bytes(i // 8 for i in range(2047))]
+
+    def served(self):
+        for text in self.TEXTS:
+            table = sirbolta.build(text, 40)
+            self.assertEqual(table.read(), (text, 40))
+            self.assertEqual(table.locate(text[:1]), [i for i in range(2047) if text[i] == text[0]])
+            self.assertRaises(sirbolta.PatternEmpty, table.locate, b"")
+
+    def on_a_thread(self, stack):
+        usual = threading.stack_size(stack)
+        try:
+            with ThreadPoolExecutor(4) as pool:
+                list(pool.map(lambda _: self.served(), range(8)))
+                self.assertEqual(threading.stack_size(), stack)
+        finally:
+            threading.stack_size(usual)
+
+    def test_128_kib(self):
+        self.on_a_thread(128 << 10)
+
+    def test_1_mib(self):
+        self.on_a_thread(1 << 20)
+
+    def test_only_where_the_stack_is_small(self):
+        with patch.object(sirbolta, "_on_a_deep_stack") as other:
+            self.served()
+        other.assert_not_called()
+
+
+class Examples(unittest.TestCase):
+    def test_examples_of_the_docstrings(self):
+        self.assertEqual(doctest.testmod(sirbolta).failed, 0)
+        for name in sirbolta.__all__:
+            item = getattr(sirbolta, name)
+            if inspect.isfunction(item):
+                self.assertIn(">>> ", item.__doc__)
+
+    def test_many_drives(self):
+        ran = subprocess.run([sys.executable, "-B", str(MODULE / "many.py")], capture_output=True, text=True)
+        self.assertEqual((ran.stdout, ran.stderr), ("19660 finds in 1000 drives\n", ""))
+
+    def test_the_readme_shows_many_py(self):
+        code = (MODULE / "many.py").read_text().split('"""\n\n', 1)[1]
+        self.assertTrue(f"```python\n{code}```" in (ROOT / "README.md").read_text(), "README.md shows another example")
 
 
 if __name__ == "__main__":
@@ -257,4 +451,4 @@ if __name__ == "__main__":
     result = unittest.TextTestRunner(stream=report).run(unittest.defaultTestLoader.loadTestsFromModule(sys.modules[__name__]))
     if not result.wasSuccessful() or not AGREED:
         sys.exit(report.getvalue())
-    print(f"python module: {sum(AGREED.values())} cases agree, {result.testsRun} tests pass")
+    print(f"python package: {sum(AGREED.values())} cases agree, {result.testsRun} tests pass")

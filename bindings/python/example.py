@@ -3,14 +3,14 @@
 import sirbolta
 
 table = sirbolta.build(b"abab", chair=40)
-print(sirbolta.check(table), "rules")
+print(table.check(), "rules")
 
-drive, chair = sirbolta.read(table)
+drive, chair = table.read()
 print(f"chair {chair}, {len(drive)} samples")
 
-print("ab begins at", sirbolta.locate(table, b"ab"))
+print("ab begins at", table.locate(b"ab"))
 
 try:
-    sirbolta.extract(table, start=4, length=1)
+    table.extract(start=4, length=1)
 except sirbolta.RangePastEnd as refusal:
     print(refusal)

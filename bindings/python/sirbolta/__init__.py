@@ -1,0 +1,300 @@
+"""The services of the proved library: a drive stored as its Lyndon grammar, checked, read back and searched.
+
+    >>> import sirbolta
+    >>> table = sirbolta.build(b"abab", chair=40)
+    >>> table.locate(b"ab")
+    [0, 2]
+
+A text is a drive: at most 2,047 samples of one byte. A pattern is 1 to 2,047 samples. Both are bytes, or any buffer of single bytes.
+
+A table is a `Table`, which `build` answers, or any buffer with a table's words: single bytes, four a word and the lowest first, or unsigned words of 32
+bits. It is read where it stands; only where its words are not aligned to four bytes, or stand apart, it is copied. A sequence of whole numbers is taken
+too, and converted at each call. Nothing may write to a buffer while a call reads it.
+
+Each service answers from its arguments alone, or raises the refusal whose check is met first, a subclass of `Refusal`. `WorkTooShort` and
+`ResultTooShort` are never met: this package lends slices that are long enough. Before the library is called, an argument of another type raises
+TypeError; a negative number, a word or chair number with too many bits, or bytes that are no whole number of words raise ValueError.
+
+Threads may call at the same time, and the interpreter's lock is free while the library works. A thread has one work slice of 64 KiB for all its calls.
+`read` and `locate` take up to 240 KiB of stack: on a thread whose stack is smaller than 1 MiB they are run on another one, which is slower.
+
+The library is `libsirbolta.so` beside this package, or in the repository's target/lib, or the file that the environment variable SIRBOLTA_LIBRARY
+names. One with another interface number is not loaded: ImportError.
+"""
+
+from __future__ import annotations
+
+import ctypes
+from array import array
+from collections.abc import Iterable, Iterator, Mapping, Sequence, Set
+from operator import index
+from typing import TYPE_CHECKING, NamedTuple, NoReturn, SupportsIndex, Union
+
+from ._native import INTERFACE, WORK as _WORK, Reply as _Reply, SearchReply as _SearchReply
+from ._native import library as _library, on_a_deep_stack as _on_a_deep_stack, this_thread as _this_thread
+from .refusals import (
+    BadWord, NotATable, PatternEmpty, PatternTooLong, RangePastEnd, Refusal, ResultTooShort, TableLength, TextTooLong, WorkTooShort, refusal as _refusal,
+)
+
+if TYPE_CHECKING:
+    from _typeshed import ReadableBuffer as Buffer
+else:
+    Buffer = object
+
+__all__ = [
+    "INTERFACE", "Table", "build", "check", "read", "extract", "count", "locate", "live_cuts", "Refusal", "TextTooLong", "PatternEmpty", "PatternTooLong",
+    "WorkTooShort", "TableLength", "BadWord", "NotATable", "RangePastEnd", "ResultTooShort",
+]
+
+Samples = Buffer
+Words = Union["Table", Buffer, Sequence[int]]
+
+_SAMPLES = 2_047
+_TABLE = 4_608
+_Bytes = ctypes.c_uint8 * _SAMPLES
+_Positions = ctypes.c_uint32 * _SAMPLES
+_TableWords = ctypes.c_uint32 * _TABLE
+_LARGEST = 2**64 - 1  # of a start or a length; no text reaches as far, so a larger number is refused alike
+
+
+class Table:
+    """A table: its words as bytes, four a word and the lowest first, which do not change.
+
+    It is made by `build`, or from the words of a table; whether they are one, the services say, not this class. It is equal to a table of the same
+    words, may be a key or a member of a set, is pickled, and goes as a BLOB into a database of `sqlite3`, from where its bytes come back.
+
+    >>> table = build(b"abab", chair=40)
+    >>> Table(bytes(table)) == table
+    True
+    >>> list(table.words[:2]) == [0, 0xC0000028]
+    True
+    """
+
+    __slots__ = ("_bytes",)
+    _bytes: bytes
+
+    def __new__(cls, words: Words) -> Table:
+        table = super().__new__(cls)
+        object.__setattr__(table, "_bytes", bytes(words) if isinstance(words, (Table, bytes)) else _view(words).tobytes())
+        _in_words(len(table._bytes))
+        return table
+
+    @property
+    def words(self) -> memoryview:
+        """The words as numbers, not copied."""
+        return memoryview(self._bytes).cast("I")
+
+    def check(self) -> int:
+        """How many rules it has: `sirbolta.check`."""
+        return check(self)
+
+    def read(self) -> tuple[bytes, int]:
+        """Its text and its chair number: `sirbolta.read`."""
+        return read(self)
+
+    def extract(self, start: int, length: int) -> bytes:
+        """A part of its text: `sirbolta.extract`."""
+        return extract(self, start, length)
+
+    def count(self, pattern: Samples) -> int:
+        """How often the pattern begins in its text: `sirbolta.count`."""
+        return count(self, pattern)
+
+    def locate(self, pattern: Samples) -> list[int]:
+        """The positions at which the pattern begins in its text: `sirbolta.locate`."""
+        return locate(self, pattern)
+
+    def __bytes__(self) -> bytes:
+        return self._bytes
+
+    def __eq__(self, other: object) -> bool:
+        return isinstance(other, Table) and self._bytes == other._bytes
+
+    def __hash__(self) -> int:
+        return hash(self._bytes)
+
+    def __reduce__(self) -> tuple[type[Table], tuple[bytes]]:
+        return type(self), (self._bytes,)
+
+    def __conform__(self, protocol: object) -> bytes:
+        """What `sqlite3` stores."""
+        return self._bytes
+
+    def __setattr__(self, name: str, value: object) -> NoReturn:
+        raise AttributeError("a table does not change")
+
+    def __delattr__(self, name: str) -> NoReturn:
+        raise AttributeError("a table does not change")
+
+    def __repr__(self) -> str:
+        return f"<sirbolta.Table of {len(self._bytes) // 4} words>"
+
+
+def build(text: Samples, chair: int) -> Table:
+    """The table of a text and a chair number from 0 to 65,535. Refusals: TextTooLong.
+
+    >>> build(b"abab", chair=40)
+    <sirbolta.Table of 12 words>
+    """
+    samples = _samples(text)
+    result = _TableWords()
+    reply = _library.sirbolta_build(samples, len(samples), _number(chair, "the chair number", 16), _this_thread.work, _WORK, result, _TABLE)
+    return Table(ctypes.string_at(result, 4 * _counted(reply)))
+
+
+def check(table: Words) -> int:
+    """How many rules a table has. Refusals: TableLength, BadWord, NotATable.
+
+    >>> check(build(b"abab", chair=40))
+    6
+    >>> check([0, 0xC0000000, 257, 0xC0000000])
+    Traceback (most recent call last):
+    sirbolta.refusals.BadWord: refused 6: word 2 of the table is bad
+    """
+    words = _words(table)
+    return _counted(_library.sirbolta_check(words.start, words.length, _this_thread.work, _WORK))
+
+
+def read(table: Words) -> tuple[bytes, int]:
+    """The text and the chair number of a table. Refusals: those of `check`.
+
+    >>> read(build(b"abab", chair=40))
+    (b'abab', 40)
+    """
+    return _read(table) if _this_thread.deep else _on_a_deep_stack(_read, table)
+
+
+def extract(table: Words, start: int, length: int) -> bytes:
+    """The part of the text that begins at start and has length samples. Refusals: those of `check`, RangePastEnd.
+
+    >>> extract(build(b"abab", chair=40), start=1, length=2)
+    b'ba'
+    """
+    words = _words(table)
+    start, length = min(_number(start, "start"), _LARGEST), min(_number(length, "length"), _LARGEST)
+    result = _Bytes()
+    reply = _library.sirbolta_extract(words.start, words.length, start, length, _this_thread.work, _WORK, result, _SAMPLES)
+    return ctypes.string_at(result, _counted(reply))
+
+
+def count(table: Words, pattern: Samples) -> int:
+    """How often the pattern begins in the text, overlapping occurrences included. Refusals: PatternEmpty, PatternTooLong, those of `check`.
+
+    >>> count(build(b"aaaa", chair=40), b"aa")
+    3
+    """
+    words, samples = _words(table), _samples(pattern)
+    return _counted(_library.sirbolta_count(words.start, words.length, samples, len(samples), _this_thread.work, _WORK))
+
+
+def locate(table: Words, pattern: Samples) -> list[int]:
+    """The positions at which the pattern begins in the text, rising, each once. Refusals: those of `count`.
+
+    >>> locate(build(b"aaaa", chair=40), b"aa")
+    [0, 1, 2]
+    """
+    return _locate(table, pattern) if _this_thread.deep else _on_a_deep_stack(_locate, table, pattern)
+
+
+def live_cuts(pattern: Samples) -> list[int]:
+    """The live cuts of the pattern, rising, each once. Refusals: PatternEmpty, PatternTooLong.
+
+    >>> live_cuts(b"aaba")
+    [1, 3]
+    """
+    samples = _samples(pattern)
+    result = _Positions()
+    return result[: _counted(_library.sirbolta_live_cuts(samples, len(samples), result, _SAMPLES))]
+
+
+def _read(table: Words) -> tuple[bytes, int]:
+    words = _words(table)
+    result = _Bytes()
+    reply = _library.sirbolta_read(words.start, words.length, _this_thread.work, _WORK, result, _SAMPLES)
+    return ctypes.string_at(result, _counted(reply)), reply.chair
+
+
+def _locate(table: Words, pattern: Samples) -> list[int]:
+    words, samples = _words(table), _samples(pattern)
+    result = _Positions()
+    reply = _library.sirbolta_locate(words.start, words.length, samples, len(samples), _this_thread.work, _WORK, result, _SAMPLES)
+    return result[: _counted(reply)]
+
+
+def _counted(reply: _Reply | _SearchReply) -> int:
+    """The count of a reply, or its refusal raised."""
+    if reply.number:
+        raise _refusal(reply.number, reply.place)
+    return reply.count
+
+
+def _samples(value: Samples) -> bytes:
+    if isinstance(value, bytes):
+        return value
+    try:
+        view = memoryview(value)
+    except TypeError:
+        raise TypeError(f"samples are bytes, not {type(value).__name__}") from None
+    if view.itemsize != 1:
+        raise TypeError("samples are single bytes")
+    return view.tobytes()
+
+
+class _Lent(NamedTuple):
+    """A table's words as the library takes them: bytes or an address, how many words there are, and what keeps them at that address."""
+
+    start: bytes | int
+    length: int
+    keeper: object = None
+
+
+def _words(table: Words) -> _Lent:
+    """The words of a table, lent where they stand if the library can read them there."""
+    if not isinstance(table, (Table, bytes)):
+        view = _view(table)
+        if view.c_contiguous and (address := _address(view)) % 4 == 0:
+            return _Lent(address, _in_words(view.nbytes), view)
+        table = view.tobytes()
+    packed = bytes(table)
+    return _Lent(packed, _in_words(len(packed)))
+
+
+def _in_words(length: int) -> int:
+    """How many words so many bytes are."""
+    if length % 4:
+        raise ValueError(f"a table has four bytes a word, so not {length} bytes")
+    return length // 4
+
+
+def _view(table: Buffer | Iterable[int]) -> memoryview:
+    """The words of a buffer, or those of a sequence of numbers. Text, what has no order and what can be gone through only once are no table."""
+    try:
+        view = memoryview(table)  # type: ignore[arg-type]
+    except TypeError:
+        if isinstance(table, (str, Mapping, Set, Iterator)) or not isinstance(table, Iterable):
+            raise TypeError(f"a table is a Table, a buffer or a sequence of 32-bit words, not {type(table).__name__}") from None
+        return memoryview(array("I", [_number(word, "a word of a table", 32) for word in table]))
+    if view.itemsize != 1 and not (view.itemsize == 4 and view.format.lstrip("@=<") in ("I", "L")):
+        raise TypeError(f"a table's buffer has single bytes or unsigned words of 32 bits, not the format {view.format}")
+    return view
+
+
+def _address(view: memoryview) -> int:
+    """Where a view without gaps begins. It is there as long as the view is kept."""
+    buffer = (ctypes.c_void_p * 10)()  # a Py_buffer: ten words, the first of them the address
+    ctypes.pythonapi.PyObject_GetBuffer(ctypes.py_object(view), buffer, 0)
+    address = buffer[0] or 0
+    ctypes.pythonapi.PyBuffer_Release(buffer)
+    return address
+
+
+def _number(value: SupportsIndex, name: str, bits: int | None = None) -> int:
+    """A whole number that is not negative, with at most so many bits. True and False are none."""
+    if isinstance(value, bool) or not hasattr(value, "__index__"):
+        raise TypeError(f"{name} is a whole number, not {type(value).__name__}")
+    number = index(value)
+    if number < 0:
+        raise ValueError(f"{name} is negative")
+    if bits is not None and number >> bits:
+        raise ValueError(f"{name} has more than {bits} bits")
+    return number

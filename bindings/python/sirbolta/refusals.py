@@ -1,0 +1,64 @@
+"""The refusals, an exception for each number."""
+
+from __future__ import annotations
+
+
+class Refusal(Exception):
+    """A service's refusal: its number, its reason, and its place, which is the index of a bad word, the entries needed, otherwise 0."""
+
+    number: int = 0
+    reason: str = ""
+
+    def __init_subclass__(cls) -> None:
+        cls.__doc__ = cls.__doc__ or cls.reason.format(place="N")
+
+    def __init__(self, place: int = 0) -> None:
+        super().__init__(place)
+        self.place = place
+
+    def __str__(self) -> str:
+        return f"refused {self.number}: {self.reason.format(place=self.place)}"
+
+
+class TextTooLong(Refusal):
+    number, reason = 1, "the text has more than 2,047 samples"
+
+
+class PatternEmpty(Refusal):
+    number, reason = 2, "the pattern has no sample"
+
+
+class PatternTooLong(Refusal):
+    number, reason = 3, "the pattern has more than 2,047 samples"
+
+
+class WorkTooShort(Refusal):
+    number, reason = 4, "the work slice has fewer than 16,384 words"
+
+
+class TableLength(Refusal):
+    number, reason = 5, "the table has no word, an odd number of words, or more than 4,608"
+
+
+class BadWord(Refusal):
+    number, reason = 6, "word {place} of the table is bad"
+
+
+class NotATable(Refusal):
+    number, reason = 7, "no text and chair number has this table"
+
+
+class RangePastEnd(Refusal):
+    number, reason = 8, "the range reaches past the end of the text"
+
+
+class ResultTooShort(Refusal):
+    number, reason = 9, "the result slice is too short, {place} entries are needed"
+
+
+def refusal(number: int, place: int) -> Refusal:
+    """The refusal with this number."""
+    return _NUMBERED[number](place)
+
+
+_NUMBERED = {kind.number: kind for kind in Refusal.__subclasses__()}
