@@ -1,6 +1,6 @@
 //! The services of the proved library, for safe Rust: slices in, and a count or the refusal by its name out. It wants the static library that
-//! `bindings/build` makes: `rustc -L target/staticlib -l static=capi`. Every call is sound, since Rust's slices are what the library asks for:
-//! valid, aligned, and where they are lent for writing, apart from all others.
+//! `bindings/build` makes: `rustc -L target/staticlib -l static=capi`; the package's crate links it by itself. Every call is sound, since Rust's slices
+//! are what the library asks for: valid, aligned, and where they are lent for writing, apart from all others.
 //!
 //! The work slice needs `WORK` words, the result slice as many entries as the result has; what they held before plays no part. On success the result
 //! stands at the front of the result slice and the rest is as it was; after a refusal all of it is as it was. The work slice is as it was after the
