@@ -52,10 +52,11 @@ lengthIn w r = getD w (LENGTHS + r) 0
 abbrev pub placeIn : List ℕ → ℕ → ℕ
 placeIn w r = getD w (PLACES + r) 0
 
--- how many occurrences it has, and the cut at which one straddles its join, 0 if none does
+-- a word of FOUND is occurrences * PACK + cut
 abbrev pub PACK : ℕ
 PACK = 4096
 
+-- how many occurrences it has, and the cut at which one straddles its join, 0 if none does
 abbrev pub countIn : List ℕ → ℕ → ℕ
 countIn w r = getD w (FOUND + r) 0 / PACK
 

@@ -14,7 +14,7 @@
 //     0                ranks of the marked text              2048 words
 //     LENGTHS   2048   length of a rule's string             2304
 //     PLACES    4352   a place at which it stands            2304
-//     FOUND     6656   its occurrences * 4096 + its join's cut  2304
+//     FOUND     6656   its occurrences * PACK + its join's cut  2304
 //     FLAGS     8960   a flag for each cut                   2048
 //     TABLE     11520  the table                             4608
 pub const LONGEST: usize = 2048;

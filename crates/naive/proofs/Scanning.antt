@@ -45,35 +45,35 @@ module _ (p s : List ℕ) (i k : ℕ) where
 -- ---- the places noted
 
 -- the places below i at which p begins in s
-abbrev pub noted : List ℕ → List ℕ → ℕ → List ℕ
-noted p s i = below (λ j. begins p (drop j s)) i
+abbrev pub placesBelow : List ℕ → List ℕ → ℕ → List ℕ
+placesBelow p s i = below (λ j. begins p (drop j s)) i
 
-pub none-noted : (p s old : List ℕ) → (0 ≡ length (noted p s 0)) × (old ≡ placed (noted p s 0) old)
+pub none-noted : (p s old : List ℕ) → (0 ≡ length (placesBelow p s 0)) × (old ≡ placed (placesBelow p s 0) old)
 unfolding below placed
 none-noted p s old = (refl, refl)
 
-pub noted-fewer : (p s : List ℕ) (i : ℕ) → length (noted p s i) ≤ i
+pub noted-fewer : (p s : List ℕ) (i : ℕ) → length (placesBelow p s i) ≤ i
 noted-fewer p s i = below-length (λ j. begins p (drop j s)) i
 
-pub one-more : (p s old : List ℕ) (i n m : ℕ) (out new : List ℕ) (b : Bool) → i < length old → b ≡ begins p (drop i s) → n ≡ length (noted p s i)
-    → out ≡ placed (noted p s i) old → m ≡ n + length (cond b (i ∷ []) []) → new ≡ cond b (set out n i) out
-    → (m ≡ length (noted p s (i + 1))) × (new ≡ placed (noted p s (i + 1)) old)
+pub one-more : (p s old : List ℕ) (i n m : ℕ) (out new : List ℕ) (b : Bool) → i < length old → b ≡ begins p (drop i s) → n ≡ length (placesBelow p s i)
+    → out ≡ placed (placesBelow p s i) old → m ≡ n + length (cond b (i ∷ []) []) → new ≡ cond b (set out n i) out
+    → (m ≡ length (placesBelow p s (i + 1))) × (new ≡ placed (placesBelow p s (i + 1)) old)
 unfolding below
 one-more p s old i n m out new b h e f g q r = go b e q r
   where
-    next : (x : Bool) → x ≡ begins p (drop i s) → noted p s (i + 1) ≡ noted p s i ++ cond x (i ∷ []) []
-    next x d = ap (λ (k : ℕ). noted p s k) (add-one i) ∙ ap (λ (y : Bool). noted p s i ++ cond y (i ∷ []) []) (sym d)
+    next : (x : Bool) → x ≡ begins p (drop i s) → placesBelow p s (i + 1) ≡ placesBelow p s i ++ cond x (i ∷ []) []
+    next x d = ap (λ (k : ℕ). placesBelow p s k) (add-one i) ∙ ap (λ (y : Bool). placesBelow p s i ++ cond y (i ∷ []) []) (sym d)
 
     go : (x : Bool) → x ≡ begins p (drop i s) → m ≡ n + length (cond x (i ∷ []) []) → new ≡ cond x (set out n i) out
-        → (m ≡ length (noted p s (i + 1))) × (new ≡ placed (noted p s (i + 1)) old)
+        → (m ≡ length (placesBelow p s (i + 1))) × (new ≡ placed (placesBelow p s (i + 1)) old)
     go true d u v = (
-      u ∙ ap (λ (k : ℕ). k + 1) f ∙ sym (length-append (noted p s i) (i ∷ [])) ∙ sym (ap length (next true d)),
-      v ∙ ap₂ {C = List ℕ} (λ x k. set x k i) g f ∙ sym (placed-more (noted p s i) old i (omega (arith, noted-fewer p s i))) ∙ sym (ap (λ (x : List ℕ). placed x old) (next true d)),
+      u ∙ ap (λ (k : ℕ). k + 1) f ∙ sym (length-append (placesBelow p s i) (i ∷ [])) ∙ sym (ap length (next true d)),
+      v ∙ ap₂ {C = List ℕ} (λ x k. set x k i) g f ∙ sym (placed-more (placesBelow p s i) old i (omega (arith, noted-fewer p s i))) ∙ sym (ap (λ (x : List ℕ). placed x old) (next true d)),
     )
     go false d u v =
-        let same : noted p s (i + 1) ≡ noted p s i = next false d ∙ append-nil (noted p s i) in
+        let same : placesBelow p s (i + 1) ≡ placesBelow p s i = next false d ∙ append-nil (placesBelow p s i) in
         (u ∙ omega arith ∙ f ∙ sym (ap length same), v ∙ g ∙ sym (ap (λ (x : List ℕ). placed x old) same))
 
-pub all-noted : (p s : List ℕ) (i : ℕ) → i ≡ length s + 1 → noted p s i ≡ occurrences p s
+pub all-noted : (p s : List ℕ) (i : ℕ) → i ≡ length s + 1 → placesBelow p s i ≡ occurrences p s
 unfolding occurrences
-all-noted p s i e = ap (λ (k : ℕ). noted p s k) (e ∙ add-one (length s))
+all-noted p s i e = ap (λ (k : ℕ). placesBelow p s k) (e ∙ add-one (length s))

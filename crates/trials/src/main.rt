@@ -77,13 +77,14 @@ fn search<'a>(table: &'a [u32], drive: &'a [u8], motif: &'a [u8])
     let mut scanned = [7u32; 64];
     let s = index::locate(table, motif, &mut work, &mut found);
     let a = s.answer;
-    let Answer::Done(n) = a else {
-        print(b" refused");
-        return;
-    };
-    print_places(&found, n);
-    if scan(motif, drive, &mut scanned) == n && equal(&found, &scanned) {
-        print(b" by both");
+    match a {
+        Answer::Refused(number, _) => print_number(b" refused ", wide(number)),
+        Answer::Done(n) => {
+            print_places(&found, n);
+            if scan(motif, drive, &mut scanned) == n && equal(&found, &scanned) {
+                print(b" by both");
+            }
+        }
     }
 }
 

@@ -5,13 +5,13 @@ use Prim.Native.Nat.{ℕ, _+_, _-_, _≤_}
 use native.Mathlib.Omega.{arith}
 use lib.ListN.{length}
 use Rattle.definitions.specs.Words.{placed}
-use Rattle.naive.proofs.Scanning.{noted, none-noted, noted-fewer, one-more, all-noted}
+use Rattle.naive.proofs.Scanning.{placesBelow, none-noted, noted-fewer, one-more, all-noted}
 use Rattle.naive.proofs.scan.Statement.{statement}
 use Rattle.naive.proofs.scan.Tie as tie
 
 abbrev Inv-loop : tie.InvT-loop
 Inv-loop pattern text places₀ i₀ n₀ places i n =
-    (i ≤ length text + 1) × (length places ≡ length places₀) × (n ≡ length (noted pattern text i)) × (places ≡ placed (noted pattern text i) places₀)
+    (i ≤ length text + 1) × (length places ≡ length places₀) × (n ≡ length (placesBelow pattern text i)) × (places ≡ placed (placesBelow pattern text i) places₀)
 
 abbrev μ-loop : tie.MeasureT-loop
 μ-loop pattern text places₀ i₀ n₀ places i n = length text + 1 - i

@@ -7,7 +7,7 @@ use lib.ListN.{length, getD}
 use borrow.Author.Needs.{needs}
 use borrow.Author.Tests.{eq-eqb, ne-eqb}
 use Rattle.definitions.specs.Table.{rankOf}
-use Rattle.layout.specs.Layout.{placeIn}
+use Rattle.layout.specs.Layout.{PACK, placeIn}
 use Rattle.search.proofs.Counting.{turn-known, symbol-found, symbol-place}
 use Rattle.search.proofs.found_in_symbol.Statement.{statement}
 use Rattle.search.proofs.found_in_symbol.Tie as tie
@@ -22,7 +22,7 @@ returns-2 c h =
     let a = q .before .before .before .before .args in
     let e : rankOf (a .order) (getD (a .pattern .now) 0 0) ≡ getD (a .work .now) (placeIn (a .work .now) (a .r)) 0 =
     sym (k .rank-of .ensures) ∙ sym (c .if2 .taken) ∙ ap (λ (j : ℕ). getD (a .work .now) j 0) (q .place-of .ensures) in
-    symbol-found h 4096 true (rw (eq-eqb (length (a .pattern .now)) 1 (q .before .if1 .left), eq-eqb (rankOf (a .order) (getD (a .pattern .now) 0 0)) (getD (a .work .now) (placeIn (a .work .now) (a .r)) 0) e)) refl refl
+    symbol-found h PACK true (rw (eq-eqb (length (a .pattern .now)) 1 (q .before .if1 .left), eq-eqb (rankOf (a .order) (getD (a .pattern .now) 0 0)) (getD (a .work .now) (placeIn (a .work .now) (a .r)) 0) e)) refl refl
 
 returns-3 : tie.Need-returns-3
 returns-3 c h =
