@@ -1,17 +1,16 @@
 -- Rules of a table without a bad word, as they are read: a symbol, whose string is its rank (`symbol-read`), or two rules before it, whose strings
 -- it spells one behind the other (`pair-read`). The same where the table stands in the work slice (`symbol-loaded`, `pair-loaded`).
-use mathlib.Core.Path.{_≡_, refl, sym, _∙_, ap, subst}
-use mathlib.Core.Bool.{true, false}
-use mathlib.Core.List.{List, [], _∷_, _++_}
-use Prim.Native.Nat.{ℕ, _+_, _-_, _*_, _%_, _≤_, _<_}
+use mathlib.Core.Path.{_≡_, sym, _∙_, ap, ap₂, subst}
+use mathlib.Core.List.{List}
+use Prim.Native.Nat.{ℕ, _+_, _*_, _%_, _≤_, _<_}
 use native.Mathlib.Omega.{arith}
 use lib.ListN.{length, take, drop, getD}
 use lib.Seq.{getD-take}
 use borrow.Author.Tests.{lt-ltb, le-ltb}
-use Rattle.definitions.specs.declared.Order.{Order}
-use Rattle.definitions.specs.Table.{rankOfNumber, wordOf, kindOf, numberOf, ruleString, isPair, leftHalf, rightHalf, chairOf, ruleCount}
+use Rattle.definitions.specs.Table.{wordOf, numberOf, ruleCount}
 use Rattle.lists.specs.Parts.{part}
-use Rattle.lyndon.specs.Shapes.{Shaped, Shape, one, two, shape, symbol-string, pair-string}
+use Rattle.lyndon.specs.Shapes.{Shaped}
+use Rattle.lyndon.specs.Ruled.{SymbolOf, PairOf, Ruled, symbol, pair, ruled}
 use Rattle.layout.specs.Layout.{TABLE, KIND}
 use Rattle.decoding.specs.declared.Rule.{Rule}
 use Rattle.decoding.specs.declared.Rule.the-variants.{Symbol, Pair}
@@ -34,51 +33,22 @@ words-pair t r u v h k e f = sym (read-pair t r u v (omega arith) (omega arith) 
 
 -- ---- tables without a bad word
 
--- rule r is the symbol a, beside which stands b: in rule 0 the chair number
-pub record SymbolOf (t : List ℕ) (r a b : ℕ) : Type 0 where
-  pub number : a < 257
-  pub small : b < 65536
-  pub chair : r ≡ 0 → b ≡ chairOf t
-  pub string : (o : Order) → ruleString o t r ≡ rankOfNumber o a ∷ []
-  pub no-pair : isPair t r ≡ false
-
--- rule r spells what u spells and then what v spells
-pub record PairOf (t : List ℕ) (r u v : ℕ) : Type 0 where
-  pub left : u < r
-  pub right : v < r
-  pub string : (o : Order) → ruleString o t r ≡ ruleString o t u ++ ruleString o t v
-  pub is-pair : isPair t r ≡ true
-  pub left-half : (o : Order) → leftHalf o t r ≡ ruleString o t u
-  pub right-half : (o : Order) → rightHalf o t r ≡ ruleString o t v
-
+-- a rule as it is read
 abbrev pub ReadAs : List ℕ → ℕ → Rule → Type 0
 ReadAs t r (Symbol a b) = SymbolOf t r a b
 ReadAs t r (Pair u v) = PairOf t r u v
 
 module _ (t : List ℕ) (r : ℕ) (s : Shaped t) (h : r < ruleCount t) where
   pub rule-read : ReadAs t r (ruleAt t r)
-  unfolding isPair leftHalf rightHalf kindOf numberOf chairOf
-  rule-read = go (shape t r s h)
+  unfolding ruleAt wordOf numberOf
+  rule-read = go (ruled t s r h)
     where
-      go : Shape t r → ReadAs t r (ruleAt t r)
-      go (one k n l m) =
-          let same : getD t (2 * r) 0 % KIND ≡ getD t (2 * r) 0 = omega arith in
-          subst (ReadAs t r) (read-symbol t r (omega arith)) record {
-            number = omega arith;
-            small = m;
-            chair = λ z. ap (λ (i : ℕ). getD t (2 * i + 1) 0 % KIND) z;
-            string = λ o. symbol-string o t r h k ∙ ap {B = List ℕ} (λ c. rankOfNumber o c ∷ []) same;
-            no-pair = rw (lt-ltb r (ruleCount t) h, k);
-          }
-      go (two k n l m) =
-          subst (ReadAs t r) (read-pair t r (getD t (2 * r) 0 % KIND) (getD t (2 * r + 1) 0 % KIND) (omega arith) refl refl) record {
-            left = n;
-            right = m;
-            string = λ o. pair-string o t r h k n m;
-            is-pair = rw (lt-ltb r (ruleCount t) h, k);
-            left-half = λ o. refl;
-            right-half = λ o. refl;
-          }
+      go : Ruled t r → ReadAs t r (ruleAt t r)
+      go (symbol a b k) =
+          let x : a ≡ getD t (2 * r) 0 = omega (arith, k .first) in
+          let y : b ≡ getD t (2 * r + 1) 0 % KIND = omega (arith, k .second, k .small) in
+          subst (ReadAs t r) (ap₂ {C = Rule} (λ c d. Symbol c d) x y ∙ read-symbol t r (omega (arith, k .first, k .number))) k
+      go (pair u v k) = subst (ReadAs t r) (read-pair t r u v (omega (arith, k .first)) (sym (k .first-number)) (sym (k .second-number))) k
 
   pub symbol-read : (a b : ℕ) → ruleAt t r ≡ Symbol a b → SymbolOf t r a b
   symbol-read a b e = subst (ReadAs t r) e rule-read

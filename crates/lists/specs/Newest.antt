@@ -71,6 +71,13 @@ latest-only f (suc n) r h e only = split-lt r n
     (λ q. latest-true f n (subst (λ (k : ℕ). f k ≡ true) q e) ∙ ap suc (sym q))
     (λ l. absurd (omega arith))
 
+latest-since : (f : ℕ → Bool) (n k : ℕ) → k < n → f k ≡ true → k < latest f n
+latest-since f zero k h e = absurd (omega arith)
+latest-since f (suc n) k h e = ⊎-elim
+    (λ q. omega (arith, latest-true f n q))
+    (λ q. split-lt k n (λ l. omega (arith, latest-false f n q, latest-since f n k l e)) (λ d. contra e (rw d q)) (λ l. absurd (omega arith)))
+    (either (f n))
+
 latest-none : (f : ℕ → Bool) (n : ℕ) → ((k : ℕ) → k < n → f k ≡ false) → latest f n ≡ 0
 unfolding latest
 latest-none f zero h = refl
@@ -96,6 +103,14 @@ newest-only f n r h e only = newest-found f n r (latest-only f n r h e only)
 
 pub newest-none : (f : ℕ → Bool) (n : ℕ) → ((k : ℕ) → k < n → f k ≡ false) → newest f n ≡ n
 newest-none f n h = newest-nothing f n (latest-none f n h)
+
+-- none passes where it is the bound
+pub newest-no : (f : ℕ → Bool) (n : ℕ) → newest f n ≡ n → (k : ℕ) → k < n → f k ≡ false
+newest-no f n e k h = not-so (f k) (λ q. go (latest f n) refl (latest-since f n k h q))
+  where
+    go : (m : ℕ) → latest f n ≡ m → k < latest f n → ⊥
+    go zero g l = omega arith
+    go (suc m) g l = omega (arith, newest-found f n m g, latest-le f n)
 
 pub newest-le : (f : ℕ → Bool) (n : ℕ) → newest f n ≤ n
 newest-le f n = go (latest f n) refl

@@ -1,11 +1,13 @@
--- A part of a slice: n entries from o on. What it holds at an index, after a store inside it or outside it, and how it splits.
-use mathlib.Core.Path.{_≡_, refl, sym, _∙_, ap, subst}
+-- A part of a slice: n entries from o on. What it holds at an index, after a store inside it or outside it, and how it splits; and a part that is filled
+-- with the entries of another list, each where it stands there (`Filled`).
+use mathlib.Core.Path.{_≡_, refl, sym, _∙_, ap, ap₂, subst}
 use mathlib.Core.List.{List, [], _∷_, _++_}
 use Prim.Native.Nat.{ℕ, zero, suc, _+_, _-_, _≤_, _<_}
 use native.Mathlib.Omega.{arith}
 use native.Mathlib.Nat.{zero-add, suc-add}
-use lib.ListN.{length, take, drop, getD, set, length-append, length-take, length-drop}
-use lib.Seq.{getD-take, getD-drop, drop-drop, drop-cons, take-add, drop-set-add, drop-set-lt, take-set-lt, take-set-le, take-take, take-nil, take-at, take-append-le, length-take-le, drop-append-add}
+use lib.ListN.{length, take, drop, getD, set, length-append, length-take, length-drop, length-set}
+use Rattle.lists.specs.Numbers.{split-le}
+use lib.Seq.{getD-take, getD-drop, getD-set-same, set-getD, drop-drop, drop-cons, take-add, drop-set-add, drop-set-lt, take-set-lt, take-set-le, take-take, take-nil, take-at, take-append-le, length-take-le, drop-append-add}
 
 module _ {ℓ} {A : Type ℓ} where
   -- the n entries from o on
@@ -86,6 +88,44 @@ module _ {ℓ} {A : Type ℓ} where
       ∙ ap (part o n) e
       ∙ part-part 0 m o n w h
       ∙ ap (λ (k : ℕ). part k n w) (zero-add o)
+
+  -- ---- a slice that is filled with the entries of s, each where it stands in s
+
+  -- the n entries from o on are filled
+  abbrev pub Filled : List A → List A → ℕ → ℕ → Type ℓ
+  Filled s w o n = part o n w ≡ part o n s
+
+  pub filled-none : (s w : List A) (o : ℕ) → Filled s w o 0
+  unfolding part
+  filled-none s w o = refl
+
+  pub filled-both : (s w : List A) (o n m : ℕ) → Filled s w o n → Filled s w (o + n) m → Filled s w o (n + m)
+  filled-both s w o n m e f = part-append o n m w ∙ ap₂ {C = List A} (λ x y. x ++ y) e f ∙ sym (part-append o n m s)
+
+  pub filled-at : (s w : List A) (o n i : ℕ) (d : A) → Filled s w o n → i < n → getD w (o + i) d ≡ getD s (o + i) d
+  filled-at s w o n i d e h = sym (part-at o n w i d h) ∙ ap (λ (x : List A). getD x i d) e ∙ part-at o n s i d h
+
+  -- a store of the entry that stands there in s keeps what is filled
+  pub filled-set : (s w : List A) (o n i : ℕ) (a d : A) → a ≡ getD s i d → Filled s w o n → Filled s (set w i a) o n
+  filled-set s w o n i a d q e = split-le o i (λ h. split-le (o + n) i (λ l. part-set-behind o n w i a l ∙ e) (λ l. inside h l)) (λ h. part-set-before o n w i a h ∙ e)
+    where
+      inside : o ≤ i → i < o + n → Filled s (set w i a) o n
+      inside h l =
+          subst (λ (k : ℕ). part o n (set w k a) ≡ part o n s) at
+          (part-set o n w (i - o) a (omega arith)
+          ∙ ap₂ {C = List A} (λ x b. set x (i - o) b) e (q ∙ ap (λ (k : ℕ). getD s k d) (sym at) ∙ sym (part-at o n s (i - o) d (omega arith)))
+          ∙ set-getD (part o n s) (i - o) d)
+        where
+          at : o + (i - o) ≡ i
+          at = omega arith
+
+  -- and fills one entry more
+  pub filled-more : (s w : List A) (o n : ℕ) (a d : A) → o + n < length w → o + n < length s → a ≡ getD s (o + n) d → Filled s w o n → Filled s (set w (o + n) a) o (n + 1)
+  filled-more s w o n a d h k q e =
+      filled-both s (set w (o + n) a) o n 1 (filled-set s w o n (o + n) a d q e)
+      (part-cons (o + n) 0 (set w (o + n) a) d (omega (arith, length-set w (o + n) a))
+      ∙ ap₂ {C = List A} (λ b x. b ∷ x) (getD-set-same w (o + n) a d h ∙ q) (part-none (suc (o + n)) (set w (o + n) a) ∙ sym (part-none (suc (o + n)) s))
+      ∙ sym (part-cons (o + n) 0 s d k))
 
   -- n entries from o on are lent, and written over by z
   module _ (w z : List A) (o n : ℕ) (fits : o + n ≤ length w) (size : length z ≡ n) where

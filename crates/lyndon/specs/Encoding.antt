@@ -46,6 +46,11 @@ unfolding beside
 beside-none zero = refl
 beside-none (suc r) = refl
 
+pub beside-later : (c r : ℕ) → 0 < r → beside c r ≡ 0
+unfolding beside
+beside-later c zero h = absurd (omega arith)
+beside-later c (suc r) h = refl
+
 pub words-cons : (o : Order) (c : ℕ) (x : Rule) (K : List Rule) → words o c (x ∷ K) ≡ firstWord o x ∷ secondWord c x ∷ words o 0 K
 unfolding words ruleWords firstWord secondWord
 words-cons o c (symbol a) K = refl

@@ -18,3 +18,13 @@ pub mod Pairs
 pub mod Shapes
 pub mod Back
 pub mod Finds
+pub mod Meeting
+pub mod Ruled
+pub mod Standard
+pub mod Twins
+pub mod Lookup
+pub mod Marks
+pub mod Accepted
+pub mod Judging
+pub mod Entries
+pub mod Filling

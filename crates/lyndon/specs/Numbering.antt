@@ -48,7 +48,7 @@ index-at x (y ∷ S) h = ⊎-elim
     (either (same x y))
 
 -- and nowhere before
-index-first : (x : List ℕ) (S : List (List ℕ)) (i : ℕ) → i < length S → getD S i [] ≡ x → indexOf x S ≤ i
+pub index-first : (x : List ℕ) (S : List (List ℕ)) (i : ℕ) → i < length S → getD S i [] ≡ x → indexOf x S ≤ i
 index-first x [] i h e = absurd (omega arith)
 index-first x (y ∷ S) zero h e = omega (arith, index-found x y S (eq-same x y (sym e)))
 index-first x (y ∷ S) (suc i) h e = let ih = index-first x S i (omega arith) e in

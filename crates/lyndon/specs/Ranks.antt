@@ -1,5 +1,5 @@
 -- Bytes, ranks and symbol numbers: each gives the others back. The marked text is a Lyndon word over 257 symbols.
-use mathlib.Core.Path.{_≡_, refl, sym, ap, ap₂, subst}
+use mathlib.Core.Path.{_≡_, refl, sym, _∙_, ap, ap₂, subst}
 use mathlib.Core.Bool.{Bool, true}
 use mathlib.Core.Logic.{inl, ⊎-elim}
 use mathlib.Core.List.{List, [], _∷_, _++_, map, tail-eq-of-cons-eq, List·Memᴰ as In, List·Memᴰ·head as here, List·Memᴰ·tail as there, List·Memᴰ·cases-cons as in-cons, Memᴰ·append-right as in-right}
@@ -48,6 +48,15 @@ pub rank-of-number : (o : Order) (r : ℕ) → r < 257 → rankOfNumber o (numbe
 unfolding numberOfRank rankOfNumber
 rank-of-number o zero h = refl
 rank-of-number o (suc r) h = rank-of-byte o (suc r) (omega arith) h
+
+pub number-of-rank : (o : Order) (n : ℕ) → n < 257 → numberOfRank o (rankOfNumber o n) ≡ n
+unfolding rankOfNumber numberOfRank
+number-of-rank o zero h = refl
+number-of-rank o (suc b) h = go (rankOf o b) refl (rank-range o b (omega arith) .0)
+  where
+    go : (r : ℕ) → r ≡ rankOf o b → 0 < rankOf o b → numberOfRank o (rankOf o b) ≡ suc b
+    go zero e l = absurd (omega arith)
+    go (suc r) e l = rw (← e) (ap suc (ap (byteOf o) e ∙ byte-of-rank o b (omega arith)))
 
 -- ---- drives
 

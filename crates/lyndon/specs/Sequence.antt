@@ -1,21 +1,21 @@
--- The strings of a word's grammar, by number: the root's is the last (`order-root`), every other is a half of a later one
--- (`order-half`), and there are at most as many as symbols of the alphabet and joins (`order-size`).
+-- The strings of a word's grammar, by number: each is a Lyndon word (`order-lyndon`), the word's first symbol is the first (`order-first`), the root's string the last
+-- (`order-root`), every other is a half of a later one (`order-half`), and there are at most as many as symbols of the alphabet and joins (`order-size`).
 use mathlib.Core.Path.{_≡_, refl, sym, _∙_, ap, subst}
 use mathlib.Core.Logic.{_⊎_, inl, inr, ⊎-elim}
 use mathlib.Core.List.{List, [], _∷_, _++_, List·Memᴰ as In, List·Memᴰ·head as here, Memᴰ·append-left as in-left, Memᴰ·append-right as in-right}
 use Prim.Native.Nat.{ℕ, suc, _+_, _-_, _≤_, _<_}
 use native.Mathlib.Omega.{arith}
-use lib.ListN.{length, getD, length-append}
-use lib.Seq.{getD-append-seam}
+use lib.ListN.{length, take, getD, length-append}
+use lib.Seq.{getD-append-seam, take-append-le}
 use lib.Dec.{ltb}
 use borrow.Author.Tests.{ltb-true, lt-ltb, le-ltb}
 use Rattle.definitions.specs.Words.{below}
 use Rattle.definitions.specs.Grammar.{Tree, leaf, node, word, lyndonTree, leftOf, rightOf, indexOf, meet, visit, order}
-use Rattle.lists.specs.Lists.{Extends}
+use Rattle.lists.specs.Lists.{Extends, extends-trans}
 use Rattle.lists.specs.Numbers.{split-le, below-length, count-le, count-lt}
-use Rattle.lyndon.specs.Words.{Lyndon}
+use Rattle.lyndon.specs.Words.{Lyndon, lyndon-one}
 use Rattle.lyndon.specs.Factorization.{std-left, std-right}
-use Rattle.lyndon.specs.Trees.{LyndonTree, word-filled, tree-of}
+use Rattle.lyndon.specs.Trees.{LyndonTree, word-filled, tree-lyndon, tree-of}
 use Rattle.lyndon.specs.Numbering.{Has, Numbered, index-at, index-cases, meet-old, meet-new, meet-has, meet-extends, extends-has, visit-extends, order-numbered}
 
 -- what was met after x stood there, or is x
@@ -39,6 +39,19 @@ pub order-all : (P : List ℕ → Type 0) → ((u v : List ℕ) → P (u ++ v) �
 unfolding order
 order-all P halves w h p x k =
     visit-all P halves [] (lyndonTree w) (λ y m. absurd (omega arith)) (subst P (sym (tree-of w h .1)) p) x k
+
+-- every string is a Lyndon word
+visit-lyndon : (S : List (List ℕ)) (t : Tree) → LyndonTree t → ((x : List ℕ) → Has S x → Lyndon x) → (x : List ℕ) → Has (visit S t) x → Lyndon x
+unfolding visit word
+visit-lyndon S (leaf a) h s x k = ⊎-elim (λ l. s x l) (λ e. rw e (lyndon-one a)) (meet-cases S (a ∷ []) x k)
+visit-lyndon S (node l r) h s x k = ⊎-elim
+    (λ m. visit-lyndon (visit S l) r (h .1) (visit-lyndon S l (h .0) s) x m)
+    (λ e. rw e (tree-lyndon (node l r) h))
+    (meet-cases (visit (visit S l) r) (word l ++ word r) x k)
+
+pub order-lyndon : (w : List ℕ) → Lyndon w → (x : List ℕ) → Has (order w) x → Lyndon x
+unfolding order
+order-lyndon w h = visit-lyndon [] (lyndonTree w) (tree-of w h .0) (λ y m. absurd (omega arith))
 
 -- ---- the root's string is the last
 
@@ -79,6 +92,20 @@ order-root w h = go (order-last w h)
     go (S, e) =
         let k : length (order w) - 1 ≡ length S = omega (arith, simp length-append at (ap length e)) in
         rw (k, e) (getD-append-seam S w [] [])
+
+-- ---- the first is the word's first symbol
+
+visit-first : (t : Tree) → (S : List (List ℕ)) × (visit [] t ≡ take 1 (word t) ∷ S)
+unfolding visit word
+visit-first (leaf a) = ([], meet-new [] (a ∷ []) (omega arith))
+visit-first (node l r) =
+    let (S, e) = visit-first l in
+    let (M, f) = extends-trans (visit [] l) (visit (visit [] l) r) (visit [] (node l r)) (visit-extends (visit [] l) r) (meet-extends (visit (visit [] l) r) (word l ++ word r)) in
+    (S ++ M, f ∙ ap (λ (x : List (List ℕ)). x ++ M) e ∙ ap (λ (x : List ℕ). x ∷ (S ++ M)) (sym (take-append-le 1 (word l) (word r) (omega (arith, word-filled l)))))
+
+pub order-first : (w : List ℕ) → Lyndon w → getD (order w) 0 [] ≡ take 1 w
+unfolding order
+order-first w h = let (S, e) = visit-first (lyndonTree w) in ap (λ (x : List (List ℕ)). getD x 0 []) e ∙ ap (take 1) (tree-of w h .1)
 
 -- ---- every other string is a half of a later one
 

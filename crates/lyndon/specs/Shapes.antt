@@ -13,10 +13,11 @@ use lib.Seq.{getD-append-seam}
 use lib.Dec.{ltb, leb, eqb}
 use borrow.Author.Tests.{ltb-true, leb-true, eqb-true, eq-eqb, ne-eqb, not-false}
 use Rattle.definitions.specs.declared.Order.{Order}
-use Rattle.definitions.specs.Table.{tableOf, rankOfNumber, kindOf, numberOf, badFirst, badSecond, badWord, stringOf, strings, ruleString, ruleCount}
+use Rattle.definitions.specs.Table.{tableOf, chairOf, rankOfNumber, kindOf, numberOf, badFirst, badSecond, badWord, stringOf, strings, ruleString, ruleCount}
 use Rattle.lists.specs.Bools.{and-left, and-right, or-cases}
 use Rattle.lists.specs.Numbers.{least-before}
 use Rattle.lyndon.specs.Ranks.{rank-range}
+use Rattle.lyndon.specs.Encoding.{beside}
 use Rattle.lyndon.specs.Stored.{Stored, table-length, table-filled, table-no-bad}
 
 -- ---- the two kinds of rules
@@ -100,6 +101,16 @@ shape t r s h = go (or-cases (eqb k 0 && leb n 256) (eqb k 1 && ltb n r) (not-fa
         let f = second-pair r x y z (second-good t r s h) in
         two z (ltb-true n r (and-right (eqb k 1) (ltb n r) e)) (eqb-true l 2 (and-left (eqb l 2) (ltb m r) f)) (ltb-true m r (and-right (eqb l 2) (ltb m r) f))
 
+-- beside a symbol stands the chair number in rule 0, and 0 in any other
+pub symbol-beside : (t : List ℕ) (r : ℕ) → Shaped t → r < ruleCount t → kindOf (getD t (2 * r) 0) ≡ 0 → numberOf (getD t (2 * r + 1) 0) ≡ beside (chairOf t) r
+unfolding beside chairOf
+symbol-beside t zero s h k = refl
+symbol-beside t (suc r) s h k =
+    let y = getD t (2 * suc r + 1) 0 in
+    let f = second-symbol (suc r) (getD t (2 * suc r) 0) y k (second-good t (suc r) s h) in
+    let z = leb-true (numberOf y) (cond (eqb (suc r) 0) 65535 0) (and-right (eqb (kindOf y) 3) (leb (numberOf y) (cond (eqb (suc r) 0) 65535 0)) f) in
+    omega (arith, rw (ne-eqb (suc r) 0 (λ e. omega arith)) at z)
+
 -- the first rule is a symbol, so word 1 holds at most a chair number
 pub chair-small : (t : List ℕ) → Shaped t → numberOf (getD t 1 0) < 65536
 chair-small t s = go (shape t 0 s (omega (arith, s .even, s .filled)))
@@ -111,7 +122,7 @@ chair-small t s = go (shape t 0 s (omega (arith, s .even, s .filled)))
 -- ---- what the rules spell
 
 module _ (o : Order) (t : List ℕ) where
-  strings-length : (n : ℕ) → length (strings o t n) ≡ n
+  pub strings-length : (n : ℕ) → length (strings o t n) ≡ n
   unfolding strings
   strings-length zero = refl
   strings-length (suc n) = simp length-append (omega (arith, strings-length n))

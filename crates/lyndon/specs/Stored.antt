@@ -134,7 +134,11 @@ accepted-table o t e =
     spells : Bool
     spells = same (tableOf o (textOf o t) (chairOf t)) t
 
--- what it spells is the marked drive
+-- its strings are those of the marked drive's grammar, and what it spells is the marked drive
+pub accepted-strings : (o : Order) (t : List ℕ) → isTable o t ≡ true → strings o t (ruleCount t) ≡ order (marked o (textOf o t))
+accepted-strings o t e =
+    ap (λ (x : List ℕ). strings o x (ruleCount x)) (sym (accepted-table o t e)) ∙ table-strings o (textOf o t) (chairOf t) (accepted-stored o t e)
+
 pub accepted-spelled : (o : Order) (t : List ℕ) → isTable o t ≡ true → spelled o t ≡ marked o (textOf o t)
 accepted-spelled o t e = ap (spelled o) (sym (accepted-table o t e)) ∙ table-spelled o (textOf o t) (chairOf t) (accepted-stored o t e)
 

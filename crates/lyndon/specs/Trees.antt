@@ -1,5 +1,5 @@
 -- The Lyndon tree: `lyndonTree` of a Lyndon word is a tree of standard factorizations that spells the word (`tree-of`),
--- and it is the only one (`tree-unique`).
+-- and it is the only one (`tree-unique`): that of one symbol is a leaf, that of a standard factorization the node of its parts' trees (`tree-leaf`, `tree-node`).
 use mathlib.Core.Path.{_≡_, refl, sym, _∙_, ap, ap₂, subst}
 use mathlib.Core.List.{List, [], _∷_, _++_}
 use Prim.Native.Nat.{ℕ, zero, suc, _≤_, _<_}
@@ -93,3 +93,12 @@ tree-split (suc d) (node l r) h k =
 pub tree-unique : (t : Tree) → LyndonTree t → lyndonTree (word t) ≡ t
 unfolding lyndonTree
 tree-unique t h = tree-split (length (word t)) t h (le-refl (length (word t)))
+
+pub tree-leaf : (a : ℕ) → lyndonTree (a ∷ []) ≡ leaf a
+unfolding word
+tree-leaf a = tree-unique (leaf a) tt
+
+pub tree-node : (u v : List ℕ) → Lyndon u → Lyndon v → Std u v → Lt u v → lyndonTree (u ++ v) ≡ node (lyndonTree u) (lyndonTree v)
+tree-node u v hu hv d l =
+    let (t, e) = node-of u v (lyndonTree u) (lyndonTree v) (tree-of u hu) (tree-of v hv) d l in
+    ap lyndonTree (sym e) ∙ tree-unique (node (lyndonTree u) (lyndonTree v)) t
