@@ -11,7 +11,7 @@ ghost use mathlib.Core.Path.{_≡_};
 ghost use mathlib.Core.List.{[], _∷_};
 ghost use lib.ListN.{length, take, drop};
 ghost use Rattle.definitions.specs.Services.{Serves, Answers, Reads, writes, rangePastEnd};
-ghost use Rattle.grammar.specs.Loaded.{Ready, rulesLoaded};
+ghost use Rattle.state.specs.State.{Ready, rulesLoaded};
 
 // Copies words to the front of the result slice, or refuses by 9.
 pub fn deliver(words: &[u32], result: &mut [u32]) -> Answer
@@ -36,18 +36,19 @@ pub fn read_loaded(rules: usize, work: &[u32], result: &mut [u8]) -> ReadAnswer
     with_chair(a, chair)
 }
 
-// Writes a part of the text that is loaded, or refuses by 8 or 9.
+// Writes a part of the text that is loaded, whose table has so many rules, or refuses by 8 or 9.
 pub fn deliver_part(
     order: Order,
     start: usize,
     count: usize,
+    rules: usize,
     work: &[u32],
     result: &mut [u8],
 ) -> Answer
-    requires { ⌜ ((h : Ready (now work)) × (h .order ≡ order)) ⌝ }
-    ensures { λ r. ⌜ ((h : Ready (now (work .entry))) → h .order ≡ order → Serves (writes (rangePastEnd (length (h .text)) start count ∷ []) (take count (drop start (h .text))) 0 (now (result .entry))) (Answers r) (now (result .exit) ∷ [])) ⌝ }
+    requires { ⌜ ((h : Ready (now work)) × (h .order ≡ order) × (rules ≡ rulesLoaded h)) ⌝ }
+    ensures { λ r. ⌜ ((h : Ready (now (work .entry))) → h .order ≡ order → rules ≡ rulesLoaded h → Serves (writes (rangePastEnd (length (h .text)) start count ∷ []) (take count (drop start (h .text))) 0 (now (result .entry))) (Answers r) (now (result .exit) ∷ [])) ⌝ }
 {
-    let range = range_fits(spelling::text_length(work), start, count);
+    let range = range_fits(spelling::text_length(rules, work), start, count);
     let Answer::Done(n) = range else {
         return range;
     };
@@ -64,7 +65,7 @@ fn deliver_text(rules: usize, work: &[u32], result: &mut [u8]) -> Answer
     requires { ⌜ ((h : Ready (now work)) × (rules ≡ rulesLoaded h)) ⌝ }
     ensures { λ r. ⌜ ((h : Ready (now (work .entry))) → rules ≡ rulesLoaded h → Serves (writes [] (h .text) 0 (now (result .entry))) (Answers r) (now (result .exit) ∷ [])) ⌝ }
 {
-    let a = result_fits(spelling::text_length(work), result.len());
+    let a = result_fits(spelling::text_length(rules, work), result.len());
     let Answer::Done(_) = a else {
         return a;
     };

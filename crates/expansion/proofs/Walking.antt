@@ -15,7 +15,8 @@ use Rattle.lyndon.specs.Shapes.{Shaped, string-filled}
 use Rattle.layout.specs.Layout.{STACK}
 use Rattle.decoding.specs.declared.Rule.the-variants.{Symbol, Pair}
 use Rattle.decoding.specs.Decoding.{ruleAt}
-use Rattle.decoding.proofs.Rules.{SymbolOf, PairOf, symbol-read, pair-read}
+use Rattle.lyndon.specs.Ruled.{SymbolOf, PairOf}
+use Rattle.decoding.proofs.Rules.{symbol-read, pair-read}
 use Rattle.expansion.specs.declared.Turn.the-variants.{Next, Whole}
 use Rattle.expansion.specs.Expansion.{pendingIn, Expanding, Expandable, Stepped}
 

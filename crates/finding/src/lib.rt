@@ -9,7 +9,7 @@ ghost use Prim.Native.Nat.{_≤_, _<_};
 ghost use lib.ListN.{length};
 ghost use Rattle.definitions.specs.Occurrences.{occurrences, patternCuts};
 ghost use Rattle.definitions.specs.Services.{Serves, Answers, writes};
-ghost use Rattle.grammar.specs.Loaded.{Ready, rulesLoaded};
+ghost use Rattle.state.specs.State.{Ready, rulesLoaded};
 ghost use Rattle.listing.specs.Listing.{Finds, rulesCounted};
 ghost use Rattle.search.specs.Searching.{Searched};
 
@@ -18,7 +18,6 @@ pub fn count_loaded(order: Order, pattern: &[u8], rules: usize, work: &mut [u32]
     requires { ⌜ ((h : Ready (now work)) × (h .order ≡ order) × (rules ≡ rulesLoaded h) × (0 < length (now pattern)) × (length (now pattern) ≤ 2047)) ⌝ }
     ensures { λ n. ⌜ ((h : Ready (now (work .entry))) → h .order ≡ order → rules ≡ rulesLoaded h → (n ≡ length (occurrences (now (pattern .entry)) (h .text))) × Searched order (now (pattern .entry)) (h .text) (h .chair) (now (work .exit))) ⌝ }
 {
-    places::place_rules(work, rules);
     search::count(order, pattern, work, rules)
 }
 

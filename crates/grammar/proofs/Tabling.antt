@@ -27,7 +27,7 @@ use Rattle.layout.specs.Layout.{LONGEST, CLOSINGS, STACK, LINKS, TABLE, CHAIR, 
 use Rattle.ends.specs.Areas.{Ended}
 use Rattle.stack.specs.Areas.{Rules, Below}
 use Rattle.grammar.specs.Numbering.{numbered, Numberable}
-use Rattle.grammar.specs.Loaded.{Marked, Loaded}
+use Rattle.grammar.specs.Built.{Marked, Built}
 use Rattle.grammar.proofs.Stepping.{below-at}
 
 -- ---- cleared buckets
@@ -151,7 +151,7 @@ module _ (o : Order) (n chair : ℕ) (w₀ w : List ℕ) (m : Marked o n chair w
   unfolding wordOf rulesOf rulesFor
   chaired = let (a, q) = mark-first in sym (words-chair (rulesFor S) chair a (omega (arith, some-string, rules-length S)) q)
 
-  pub tabled : (v : List ℕ) → Rules o (rulesOf (marked o (m .text))) v → Below w v → Loaded o (m .text) chair (set v CHAIR (BESIDE_SYMBOL + chair))
+  pub tabled : (v : List ℕ) → Rules o (rulesOf (marked o (m .text))) v → Below w v → Built o (m .text) chair (set v CHAIR (BESIDE_SYMBOL + chair))
   tabled v r b =
       record {
         long = simp length-set (r .long);

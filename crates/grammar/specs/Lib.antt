@@ -1,2 +1,2 @@
 pub mod Numbering
-pub mod Loaded
+pub mod Built

@@ -20,12 +20,12 @@ ghost use Rattle.definitions.specs.Table.{marked};
 ghost use Rattle.layout.specs.Layout.{LINKS, WORK};
 ghost use Rattle.stack.specs.Areas.{Rules, Holds, Below};
 ghost use Rattle.grammar.specs.Numbering.{Steppable, Numberable, stepped, numbered};
-ghost use Rattle.grammar.specs.Loaded.{Marked, Loaded};
+ghost use Rattle.grammar.specs.Built.{Marked, Built};
 
 // The table of a text, in the table area of the work slice. Answers the number of rules.
 pub fn table(order: Order, text: &[u8], chair: u16, work: &mut [u32]) -> usize
     requires { ⌜ (length (now text) ≤ 2047) × (WORK ≤ length (now work)) ⌝ }
-    ensures { λ r. ⌜ Stored (now (text .entry)) chair × Loaded order (now (text .entry)) chair (now (work .exit)) × (r ≡ length (orderOf (marked order (now (text .entry))))) ⌝ }
+    ensures { λ r. ⌜ Stored (now (text .entry)) chair × Built order (now (text .entry)) chair (now (work .exit)) × (r ≡ length (orderOf (marked order (now (text .entry))))) ⌝ }
 {
     let n = text.len() + 1;
     ends::place_text(order, text, work);
@@ -35,7 +35,7 @@ pub fn table(order: Order, text: &[u8], chair: u16, work: &mut [u32]) -> usize
 // The table of the marked text that stands at the front of the work slice as n ranks. Answers the number of rules.
 pub fn build_table(order: Order, n: usize, chair: u16, work: &mut [u32]) -> usize
     requires { ⌜ Marked order n chair (now work) ⌝ }
-    ensures { λ r. ⌜ ((m : Marked order n chair (now (work .entry))) → Loaded order (m .text) chair (now (work .exit)) × (r ≡ length (orderOf (marked order (m .text))))) ⌝ }
+    ensures { λ r. ⌜ ((m : Marked order n chair (now (work .entry))) → Built order (m .text) chair (now (work .exit)) × (r ≡ length (orderOf (marked order (m .text))))) ⌝ }
 {
     ends::ends(work, n);
     let r = rules(order, n, work);

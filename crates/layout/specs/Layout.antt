@@ -27,6 +27,9 @@ LENGTHS = 2048
 abbrev pub PLACES : ℕ
 PLACES = 4352
 
+abbrev pub ENTRIES : ℕ
+ENTRIES = 6656
+
 abbrev pub FOUND : ℕ
 FOUND = 6656
 
@@ -51,6 +54,10 @@ lengthIn w r = getD w (LENGTHS + r) 0
 
 abbrev pub placeIn : List ℕ → ℕ → ℕ
 placeIn w r = getD w (PLACES + r) 0
+
+-- how many rules are met before it
+abbrev pub entryIn : List ℕ → ℕ → ℕ
+entryIn w r = getD w (ENTRIES + r) 0
 
 -- a word of FOUND is occurrences * PACK + cut
 abbrev pub PACK : ℕ

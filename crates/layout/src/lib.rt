@@ -1,12 +1,20 @@
 // Where each area of the work slice begins, and what its words are made of.
 //
-// While a table is built, checked or read:
+// While a table is built:
 //
 //     0                ranks of the marked text              2048 words
 //     LONGEST   2048   length of the longest Lyndon word     2048
 //     CLOSINGS  4096   joins that close behind a symbol      2048
 //     STACK     6144   rules                                 2048
 //     LINKS     8192   buckets, then links of rules          1024 + 2304
+//     TABLE     11520  the table                             4608
+//
+// While a table is judged and loaded:
+//
+//     0                buckets, then links of rules          1024 + 2304 words; later ranks of what the root spells, 2048
+//     LENGTHS   2048   length of a rule's string             2304
+//     PLACES    4352   a place at which it stands            2304
+//     ENTRIES   6656   the rules met before it               2304
 //     TABLE     11520  the table                             4608
 //
 // During a search:
@@ -36,6 +44,8 @@ pub const TABLE_END: usize = 16128;
 pub const LENGTHS: usize = 2048;
 
 pub const PLACES: usize = 4352;
+
+pub const ENTRIES: usize = 6656;
 
 pub const FOUND: usize = 6656;
 

@@ -16,7 +16,7 @@ use Rattle.lyndon.specs.Stored.{rule-range}
 use Rattle.layout.specs.Layout.{lengthIn, countIn, joinCutIn, Readable}
 use Rattle.decoding.specs.declared.Rule.the-variants.{Symbol, Pair}
 use Rattle.decoding.specs.Decoding.{ruleIn}
-use Rattle.places.specs.Places.{Placed}
+use Rattle.state.specs.State.{Loaded}
 use Rattle.joins.specs.Joining.{cutPlace}
 use Rattle.search.specs.Found.{occursIn}
 use Rattle.listing.specs.Listing.{Finds, inDrive, tableFor, foundFor, Listable, Listed, RestListable, ListedRest}
@@ -44,7 +44,7 @@ pub record PairLists (w : List ℕ) (r u v : ℕ) : Type 0 where
   pub number : countIn w r ≡ countIn w u + (min 1 (joinCutIn w r) + countIn w v)
 
 module _ (w : List ℕ) (h : Finds w) where
-  loaded : Placed (h .order) (h .text) (h .chair) w
+  loaded : Loaded (h .order) (h .text) (h .chair) w
   loaded = h .searched .loaded
 
   filled : 0 < length (map (rankOf (h .order)) (h .pattern))

@@ -13,15 +13,14 @@ use Rattle.definitions.specs.Table.{textOf, chairOf}
 use Rattle.definitions.specs.Services.{Outcome, refused, Check, Lent, workSlice, cleared, tableChecks, Serves}
 use Rattle.lists.specs.Decisions.{Passed, first-before}
 use Rattle.lists.specs.Serving.{by, Refuses, refused-by}
-use Rattle.lyndon.specs.Stored.{accepted-stored}
 use Rattle.layout.specs.Layout.{WORK}
-use Rattle.grammar.specs.Loaded.{Ready, rulesLoaded}
+use Rattle.state.specs.State.{Ready, rulesLoaded}
 use Rattle.opening.specs.Opening.{Opened, Admitted, turned-down, opened}
 
 module _ {o : Order} {t work held : List ℕ} where
   -- what is opened is ready to be read
   unfoldable pub ready : Opened o t work held → Ready (take WORK held)
-  ready p = record { order = o; text = textOf o t; chair = chairOf t; stored = accepted-stored o t (p .accepted); loaded = p .loaded }
+  ready p = record { order = o; text = textOf o t; chair = chairOf t; loaded = p .loaded }
 
   pub opened-cleared : Opened o t work held → cleared held ≡ cleared work
   unfolding cleared placed

@@ -17,7 +17,7 @@ use Rattle.lists.specs.Bools.{contra}
 use Rattle.lists.specs.Decisions.{met, later, none, more, refused-met, done-met}
 use Rattle.lyndon.specs.Stored.{accepted-table}
 use Rattle.layout.specs.Layout.{WORK}
-use Rattle.grammar.specs.Loaded.{Loaded}
+use Rattle.state.specs.State.{Loaded}
 use Rattle.tables.specs.Loading.{Judged}
 use Rattle.checks.proofs.Fronts.{work-cleared}
 use Rattle.opening.specs.Opening.{Settled, Admitted, turned-down, opened}

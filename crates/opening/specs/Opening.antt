@@ -12,7 +12,7 @@ use Rattle.definitions.specs.Table.{tableOf, textOf, chairOf, isTable, ruleCoun
 use Rattle.definitions.specs.Services.{Check, workSlice, cleared, tableChecks, notATable}
 use Rattle.lists.specs.Decisions.{First, Passed, checked}
 use Rattle.layout.specs.Layout.{WORK}
-use Rattle.grammar.specs.Loaded.{Loaded}
+use Rattle.state.specs.State.{Loaded}
 
 -- the table is accepted and loaded in the first 16,384 words; the others are as they were
 pub record Opened (o : Order) (t work held : List ℕ) : Type 0 where

@@ -1,5 +1,5 @@
--- The rules in the table area, as they are read: a symbol (`kept-symbol`), which has no halves (`no-half`), or a pair (`kept-pair`), which has no
--- other halves than its own (`own-half`). A store outside the area changes nothing that is kept (`kept-set`).
+-- A symbol has no halves (`no-half`), a pair no other halves than its own (`own-half`). A store between ranks and table changes nothing that is kept
+-- (`kept-set`).
 use mathlib.Core.Path.{_≡_, _∙_}
 use mathlib.Core.Logic.{_⊎_, inl, inr}
 use mathlib.Core.List.{List}
@@ -8,14 +8,11 @@ use native.Mathlib.Omega.{arith}
 use lib.ListN.{length, set, length-set}
 use Rattle.definitions.specs.Table.{tableOf}
 use Rattle.lists.specs.Parts.{part-set-before, part-set-behind}
-use Rattle.lyndon.specs.Stored.{table-size}
-use Rattle.lyndon.specs.Shapes.{Shaped, stored-shaped}
 use Rattle.layout.specs.Layout.{TABLE}
 use Rattle.decoding.specs.declared.Rule.the-variants.{Symbol, Pair}
-use Rattle.decoding.specs.Decoding.{ruleAt, ruleIn}
-use Rattle.decoding.proofs.Rules.{SymbolOf, PairOf, rule-loaded, symbol-loaded, pair-loaded}
-use Rattle.places.specs.Places.{Kept}
-use Rattle.places.specs.Passes.{Contents, tableIn, rulesIn, Half, left, right}
+use Rattle.decoding.specs.Decoding.{ruleAt}
+use Rattle.state.specs.State.{Kept}
+use Rattle.places.specs.Passes.{Contents, Half, left, right}
 
 -- ---- halves
 
@@ -30,22 +27,6 @@ own-half t r u v q e (right y f) = inr cc
 -- ---- the table that is loaded
 
 module _ (g : Contents) (w : List ℕ) (k : Kept (g .order) (g .text) (g .chair) w) where
-  module _ (r : ℕ) (h : r < rulesIn g) where
-    shaped : Shaped (tableIn g)
-    shaped = stored-shaped (g .order) (g .text) (g .chair) (k .stored)
-
-    size : length (tableIn g) ≤ 4608
-    size = table-size (g .order) (g .text) (g .chair) (k .stored)
-
-    pub kept-rule : ruleIn w r ≡ ruleAt (tableIn g) r
-    kept-rule = rule-loaded (tableIn g) w r (k .table) shaped size h
-
-    pub kept-symbol : (a b : ℕ) → ruleIn w r ≡ Symbol a b → SymbolOf (tableIn g) r a b
-    kept-symbol = symbol-loaded (tableIn g) w r (k .table) shaped size h
-
-    pub kept-pair : (u v : ℕ) → ruleIn w r ≡ Pair u v → PairOf (tableIn g) r u v
-    kept-pair = pair-loaded (tableIn g) w r (k .table) shaped size h
-
   -- a store between ranks and table
   pub kept-set : (j x : ℕ) → 2048 ≤ j → j < TABLE → Kept (g .order) (g .text) (g .chair) (set w j x)
   kept-set j x a b = record {

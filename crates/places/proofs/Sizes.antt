@@ -11,21 +11,16 @@ use Rattle.lists.specs.Numbers.{split-lt}
 use Rattle.lyndon.specs.Ranks.{marked-length}
 use Rattle.lyndon.specs.Stored.{rule-range}
 use Rattle.layout.specs.Layout.{TABLE, LENGTHS, PLACES, lengthIn}
-use Rattle.grammar.specs.Loaded.{Ready}
-use Rattle.places.specs.Passes.{Contents, tableIn, rulesIn, Sizing}
+use Rattle.places.specs.Passes.{Contents, tableIn, rulesIn, Made, Sizing}
 use Rattle.places.proofs.Strings.{string-short}
-use Rattle.decoding.proofs.Rules.{PairOf}
+use Rattle.lyndon.specs.Ruled.{PairOf}
 use Rattle.places.proofs.Rules.{kept-set}
 
--- what is loaded
-abbrev pub contents : (w : List ℕ) → Ready w → Contents
-contents w h = record { order = h .order; text = h .text; chair = h .chair }
-
 -- no length is known yet
-pub size-start : (w : List ℕ) (h : Ready w) → Sizing (contents w h) 0 w
-size-start w h = record {
-  most = rule-range (h .order) (h .text) (h .chair) (h .stored) .1;
-  kept = record { long = h .loaded .long; stored = h .stored; ranks = h .loaded .ranks; table = h .loaded .table };
+pub size-start : (g : Contents) (w : List ℕ) → Made g w → Sizing g 0 w
+size-start g w m = record {
+  most = rule-range (g .order) (g .text) (g .chair) (m .stored) .1;
+  kept = record { long = m .built .long; stored = m .stored; ranks = m .built .ranks; table = m .built .table };
   sizes = λ r l. absurd (omega arith);
 }
 

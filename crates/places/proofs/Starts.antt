@@ -1,56 +1,32 @@
--- The second pass, rule by rule: a rule that is reached has a right place (`reached`), and so have its halves (`halves-stand`); storing
+-- The second pass, rule by rule: a rule that is reached has a right place (`reached`), and so have its halves; storing
 -- right places keeps those that are stored (`placing-set`). The root's string is the whole marked text (`place-start`).
 use mathlib.Core.Path.{_≡_, sym, _∙_, ap, subst}
 use mathlib.Core.Logic.{⊎-elim}
-use mathlib.Core.List.{List, _++_}
+use mathlib.Core.List.{List}
 use Prim.Native.Nat.{ℕ, suc, _+_, _-_, _≤_, _<_}
 use native.Mathlib.Omega.{arith}
 use lib.ListN.{length, set, length-append}
 use lib.Seq.{getD-set-same, getD-set-other, take-length}
-use Rattle.definitions.specs.declared.Order.{Order}
 use Rattle.definitions.specs.Table.{marked, ruleString}
-use Rattle.lists.specs.Lists.{split-same-left, split-same-right}
 use Rattle.lists.specs.Numbers.{split-lt}
-use Rattle.lists.specs.Parts.{part, part-length, part-append}
+use Rattle.lists.specs.Parts.{part}
 use Rattle.lyndon.specs.Ranks.{marked-length}
 use Rattle.lyndon.specs.Stored.{rule-range}
 use Rattle.layout.specs.Layout.{PLACES, lengthIn, placeIn}
-use Rattle.places.specs.Places.{StandsAt, Placed}
+use Rattle.lyndon.specs.Filling.{half-places}
+use Rattle.state.specs.State.{Loaded}
 use Rattle.places.specs.Passes.{Contents, tableIn, rulesIn, Half, StandsIn, Stands, Sizing, Placing}
 use Rattle.places.proofs.Strings.{root-string, later-half}
 use Rattle.decoding.specs.declared.Rule.the-variants.{Symbol, Pair}
 use Rattle.decoding.specs.Decoding.{ruleIn}
-use Rattle.decoding.proofs.Rules.{PairOf}
-use Rattle.places.proofs.Rules.{no-half, own-half, kept-rule, kept-pair}
+use Rattle.lyndon.specs.Ruled.{PairOf}
+use Rattle.state.proofs.Rules.{kept-rule, kept-pair}
+use Rattle.places.proofs.Rules.{no-half, own-half}
 use Rattle.places.proofs.Sizes.{sizing-set}
-
--- ---- places of strings
 
 whole-part : (s : List ℕ) → part 0 (length s) s ≡ s
 unfolding part
 whole-part s = take-length s
-
--- where a pair stands stands its left half, and behind that its right half
-pub halves-stand : (o : Order) (t s : List ℕ) (r u v x : ℕ) → ruleString o t r ≡ ruleString o t u ++ ruleString o t v → StandsAt o t s r x
-    → StandsAt o t s u x × StandsAt o t s v (x + length (ruleString o t u))
-halves-stand o t s r u v x e p =
-    let size = ap length e ∙ length-append (ruleString o t u) (ruleString o t v) in
-    let fits = p .inside in
-    let front = part-length x (length (ruleString o t u)) s (omega arith) in
-    let both : part x (length (ruleString o t u)) s ++ part (x + length (ruleString o t u)) (length (ruleString o t v)) s ≡ ruleString o t u ++ ruleString o t v =
-    sym (part-append x (length (ruleString o t u)) (length (ruleString o t v)) s)
-    ∙ ap (λ (n : ℕ). part x n s) (sym size)
-    ∙ p .same
-    ∙ e in (
-      record {
-        inside = omega arith;
-        same = split-same-left (part x (length (ruleString o t u)) s) (part (x + length (ruleString o t u)) (length (ruleString o t v)) s) (ruleString o t u) (ruleString o t v) both front;
-      },
-      record {
-        inside = omega arith;
-        same = split-same-right (part x (length (ruleString o t u)) s) (part (x + length (ruleString o t u)) (length (ruleString o t v)) s) (ruleString o t u) (ruleString o t v) both front;
-      },
-    )
 
 -- ---- a right place is stored
 
@@ -95,13 +71,13 @@ place-symbol g w r a b k h e = record {
   root = k .root;
   halves = λ i q m n half. split-lt i r
       (λ l. absurd (omega arith))
-      (λ l. absurd (no-half (tableIn g) r a b q (sym (kept-rule g w (k .sizing .kept) r h) ∙ e) (subst (λ (y : ℕ). Half (tableIn g) y q) l half)))
+      (λ l. absurd (no-half (tableIn g) r a b q (sym (kept-rule (k .sizing .kept) r h) ∙ e) (subst (λ (y : ℕ). Half (tableIn g) y q) l half)))
       (λ l. k .halves i q (omega arith) n half);
 }
 
 module _ (g : Contents) (w : List ℕ) (r u v : ℕ) (k : Placing g (r + 1) w) (h : r < rulesIn g) (q : ruleIn w r ≡ Pair u v) where
   p : PairOf (tableIn g) r u v
-  p = kept-pair g w (k .sizing .kept) r h u v q
+  p = kept-pair (k .sizing .kept) r h u v q
 
   -- the halves are rules, and the right half's place is no more than the length of the text
   pub pair-room : (u < 2304) × (v < 2304) × (placeIn w r + lengthIn w u ≤ 2048)
@@ -124,7 +100,7 @@ module _ (g : Contents) (w : List ℕ) (r u v : ℕ) (k : Placing g (r + 1) w) (
   pub place-pair : (z : List ℕ) → z ≡ set (set w (PLACES + u) (placeIn w r)) (PLACES + v) (placeIn w r + lengthIn w u) → Placing g r z
   place-pair z e =
       let x = placeIn w r in
-      let (a, b) = halves-stand (g .order) (tableIn g) (marked (g .order) (g .text)) r u v x (p .string (g .order)) (reached g w (r + 1) r k (omega arith) h) in
+      let (a, b) = half-places (g .order) (marked (g .order) (g .text)) x (reached g w (r + 1) r k (omega arith) h) p in
       let y = x + lengthIn w u in
       let c : StandsIn g v y =
       subst (λ (m : ℕ). StandsIn g v (x + m)) (sym (k .sizing .sizes u (omega (arith, p .left)))) b in
@@ -141,7 +117,7 @@ module _ (g : Contents) (w : List ℕ) (r u v : ℕ) (k : Placing g (r + 1) w) (
             (λ l. ⊎-elim
             (λ s. subst (Stands g (set w₁ (PLACES + v) y)) (sym s) left₂)
             (λ s. subst (Stands g (set w₁ (PLACES + v) y)) (sym s) right)
-            (own-half (tableIn g) r u v j (sym (kept-rule g w (k .sizing .kept) r h) ∙ q) (subst (λ (c : ℕ). Half (tableIn g) c j) l half)))
+            (own-half (tableIn g) r u v j (sym (kept-rule (k .sizing .kept) r h) ∙ q) (subst (λ (c : ℕ). Half (tableIn g) c j) l half)))
             (λ l. k₂ .halves i j (omega arith) n half);
       }
 
@@ -163,7 +139,7 @@ place-start g w v rules e s f =
       halves = λ k r a b c. absurd (omega arith);
     }
 
-pub place-end : (g : Contents) (w : List ℕ) → Placing g 0 w → Placed (g .order) (g .text) (g .chair) w
+pub place-end : (g : Contents) (w : List ℕ) → Placing g 0 w → Loaded (g .order) (g .text) (g .chair) w
 place-end g w k = record {
   kept = k .sizing .kept;
   sizes = k .sizing .sizes;

@@ -1,4 +1,5 @@
-// Where the string of each rule stands in the text that is loaded, and how long it is.
+// Where the string of each rule stands in the text of a table that is made in the work slice, and how long it is: so what is built is loaded without being
+// judged.
 //
 // The lengths go from the first rule up; the places from the root down: a rule's left half stands where the rule does, its right half behind it.
 // Each pass reads a rule once. A rule that is a half of several rules keeps the place that was stored last: any of them is right.
@@ -12,14 +13,13 @@ ghost use Prim.Native.Nat.{_+_, _<_};
 ghost use lib.ListN.{length};
 ghost use Rattle.definitions.specs.Table.{ruleString};
 ghost use Rattle.layout.specs.Layout.{PLACES};
-ghost use Rattle.grammar.specs.Loaded.{Ready, rulesLoaded};
-ghost use Rattle.places.specs.Places.{Placed};
-ghost use Rattle.places.specs.Passes.{Contents, tableIn, rulesIn, Sizing, Placing};
+ghost use Rattle.state.specs.State.{Loaded};
+ghost use Rattle.places.specs.Passes.{Contents, tableIn, rulesIn, Made, Sizing, Placing};
 
-// Stores for each rule of the table that is loaded the length of its string and a place of the marked text at which it stands.
+// Stores for each rule of the table that is made the length of its string and a place of the marked text at which it stands.
 pub fn place_rules(work: &mut [u32], rules: usize)
-    requires { ⌜ ((h : Ready (now work)) × (rules ≡ rulesLoaded h)) ⌝ }
-    ensures { λ _. ⌜ ((h : Ready (now (work .entry))) → rules ≡ rulesLoaded h → Placed (h .order) (h .text) (h .chair) (now (work .exit))) ⌝ }
+    requires { ⌜ ((g : Contents) × (rules ≡ rulesIn g) × Made g (now work)) ⌝ }
+    ensures { λ _. ⌜ ((g : Contents) → rules ≡ rulesIn g → Made g (now (work .entry)) → Loaded (g .order) (g .text) (g .chair) (now (work .exit))) ⌝ }
 {
     size_all(work, rules);
     put(work, PLACES + (rules - 1), 0);

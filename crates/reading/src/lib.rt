@@ -35,10 +35,10 @@ pub fn extract(
     ensures { λ r. ⌜ Serves (extractService sampleOrder (now (table .entry)) start count (now (work .entry)) (now (result .entry))) (Answers r) (now (work .exit) ∷ now (result .exit) ∷ []) ⌝ }
 {
     let a = admit(SAMPLE_ORDER, table, work);
-    let Answer::Done(_) = a else {
+    let Answer::Done(rules) = a else {
         return a;
     };
-    let b = deliver_part(SAMPLE_ORDER, start, count, &work[0..WORK], result);
+    let b = deliver_part(SAMPLE_ORDER, start, count, rules, &work[0..WORK], result);
     clear_front(work);
     b
 }

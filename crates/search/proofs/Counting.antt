@@ -22,7 +22,7 @@ use Rattle.lyndon.specs.Stored.{rule-range}
 use Rattle.layout.specs.Layout.{TABLE, FOUND, FLAGS, PACK, Readable, lengthIn, placeIn, countIn}
 use Rattle.decoding.specs.declared.Rule.the-variants.{Pair}
 use Rattle.decoding.specs.Decoding.{ruleIn}
-use Rattle.decoding.proofs.Rules.{SymbolOf, PairOf}
+use Rattle.lyndon.specs.Ruled.{SymbolOf, PairOf}
 use Rattle.joins.specs.Joining.{cutPlace, JoinCut}
 use Rattle.joins.proofs.Joining.{cut-place-size}
 use Rattle.search.specs.Found.{occursIn, acrossJoin, FoundIn}

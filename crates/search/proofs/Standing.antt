@@ -1,4 +1,4 @@
--- What `Placed` says of a rule: what it is read as (`placed-symbol`), where it and its halves stand (`rule-stands`, `pair-stands`), and
+-- What `Loaded` says of a rule: what it is read as (`placed-symbol`), where it and its halves stand (`rule-stands`, `pair-stands`), and
 -- that stores between FOUND and TABLE change none of it (`placed-outside`).
 use mathlib.Core.Path.{_≡_, sym, _∙_, ap, ap₂, subst}
 use mathlib.Core.List.{List}
@@ -15,13 +15,12 @@ use Rattle.lyndon.specs.Ranks.{marked-length}
 use Rattle.lyndon.specs.Stored.{rule-range, table-accepted}
 use Rattle.lyndon.specs.Pairs.{pair-halves}
 use Rattle.layout.specs.Layout.{TABLE, LENGTHS, PLACES, FOUND, lengthIn, placeIn}
-use Rattle.places.specs.Places.{StandsAt, Placed}
+use Rattle.state.specs.State.{Loaded}
 use Rattle.decoding.specs.declared.Rule.the-variants.{Symbol, Pair}
 use Rattle.decoding.specs.Decoding.{ruleIn}
-use Rattle.decoding.proofs.Rules.{SymbolOf, PairOf}
-use Rattle.places.specs.Passes.{Contents}
-use Rattle.places.proofs.Rules.{kept-symbol, kept-pair}
-use Rattle.places.proofs.Starts.{halves-stand}
+use Rattle.lyndon.specs.Ruled.{SymbolOf, PairOf}
+use Rattle.lyndon.specs.Filling.{Stands, half-places}
+use Rattle.state.proofs.Rules.{kept-symbol, kept-pair}
 
 -- what a rule that is a pair says: its halves are earlier rules, and stand one behind the other
 pub record PlacedHalves (o : Order) (t : List ℕ) (r u v : ℕ) (w : List ℕ) : Type 0 where
@@ -33,15 +32,12 @@ pub record PlacedHalves (o : Order) (t : List ℕ) (r u v : ℕ) (w : List ℕ) 
   pub right-part : part (placeIn w r + lengthIn w u) (lengthIn w v) w ≡ rightHalf o t r
   pub std : Std (leftHalf o t r) (rightHalf o t r)
 
-module _ (o : Order) (text : List ℕ) (chair : ℕ) (w : List ℕ) (h : Placed o text chair w) (r : ℕ) (low : r < ruleCount (tableOf o text chair)) where
-  abbrev contents : Contents
-  contents = record { order = o; text = text; chair = chair }
-
+module _ (o : Order) (text : List ℕ) (chair : ℕ) (w : List ℕ) (h : Loaded o text chair w) (r : ℕ) (low : r < ruleCount (tableOf o text chair)) where
   pub placed-symbol : (a b : ℕ) → ruleIn w r ≡ Symbol a b → SymbolOf (tableOf o text chair) r a b
-  placed-symbol = kept-symbol contents w (h .kept) r low
+  placed-symbol = kept-symbol (h .kept) r low
 
   -- a string that stands in the marked text stands in the work slice
-  stands-here : (q x : ℕ) → StandsAt o (tableOf o text chair) (marked o text) q x
+  stands-here : (q x : ℕ) → Stands (marked o text) (ruleString o (tableOf o text chair) q) x
       → (x + length (ruleString o (tableOf o text chair) q) ≤ 2048) × (part x (length (ruleString o (tableOf o text chair) q)) w ≡ ruleString o (tableOf o text chair) q)
   stands-here q x s =
       let n = length (ruleString o (tableOf o text chair) q) in (
@@ -59,9 +55,9 @@ module _ (o : Order) (text : List ℕ) (chair : ℕ) (w : List ℕ) (h : Placed 
   pub pair-stands : (u v : ℕ) → ruleIn w r ≡ Pair u v → PlacedHalves o (tableOf o text chair) r u v w
   pair-stands u v e =
       let t = tableOf o text chair in
-      let p = kept-pair contents w (h .kept) r low u v e in
+      let p = kept-pair (h .kept) r low u v e in
       let x = placeIn w r in
-      let (a, b) = halves-stand o t (marked o text) r u v x (p .string o) (h .places r low) in
+      let (a, b) = half-places o (marked o text) x (h .places r low) p in
       let la = h .sizes u (omega (arith, p .left)) in
       let lb = h .sizes v (omega (arith, p .right)) in
       record {
@@ -85,7 +81,7 @@ pub record Outside (w v : List ℕ) : Type 0 where
 outside-at : (w v : List ℕ) → Outside w v → (i : ℕ) → i < FOUND → getD v i 0 ≡ getD w i 0
 outside-at w v e i l = sym (getD-take FOUND v i 0 l) ∙ ap (λ (x : List ℕ). getD x i 0) (e .before) ∙ getD-take FOUND w i 0 l
 
-pub placed-outside : (o : Order) (text : List ℕ) (chair : ℕ) (w v : List ℕ) → Outside w v → Placed o text chair w → Placed o text chair v
+pub placed-outside : (o : Order) (text : List ℕ) (chair : ℕ) (w v : List ℕ) → Outside w v → Loaded o text chair w → Loaded o text chair v
 unfolding part
 placed-outside o text chair w v e h =
     let most = rule-range o text chair (h .kept .stored) in
@@ -98,5 +94,5 @@ placed-outside o text chair w v e h =
             table = ap (take (length (tableOf o text chair))) (e .behind) ∙ h .kept .table;
           };
       sizes = λ r l. outside-at w v e (LENGTHS + r) (omega arith) ∙ h .sizes r l;
-      places = λ r l. subst (λ (x : ℕ). StandsAt o (tableOf o text chair) (marked o text) r x) (sym (outside-at w v e (PLACES + r) (omega arith))) (h .places r l);
+      places = λ r l. subst (λ (x : ℕ). Stands (marked o text) (ruleString o (tableOf o text chair) r) x) (sym (outside-at w v e (PLACES + r) (omega arith))) (h .places r l);
     }

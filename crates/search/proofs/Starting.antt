@@ -22,7 +22,7 @@ use Rattle.lyndon.specs.Occurrences.{occurrences-marked}
 use Rattle.layout.specs.Layout.{TABLE, FOUND, FLAGS, countIn}
 use Rattle.cuts.specs.Flags.{patternFlags}
 use Rattle.cuts.proofs.Flags.{pattern-flags-length, pattern-flag-at}
-use Rattle.places.specs.Places.{Placed}
+use Rattle.state.specs.State.{Loaded}
 use Rattle.search.specs.Found.{occursIn}
 use Rattle.search.specs.Searching.{Pattern, Counting, Searched}
 use Rattle.search.proofs.Standing.{placed-outside}
@@ -43,7 +43,7 @@ tried-flagged o p w e c m z =
 
 -- ---- the start
 
-pub counting-start : (o : Order) (p text : List ℕ) (chair : ℕ) (w z : List ℕ) (n : ℕ) → Placed o text chair w → Pattern p → n ≡ 2048
+pub counting-start : (o : Order) (p text : List ℕ) (chair : ℕ) (w z : List ℕ) (n : ℕ) → Loaded o text chair w → Pattern p → n ≡ 2048
     → z ≡ placed (patternFlags o p) (take n (drop FLAGS w)) → Counting o p text chair 0 (take FLAGS w ++ (z ++ drop n (drop FLAGS w)))
 unfolding placed
 counting-start o p text chair w z n h q e f =
@@ -77,7 +77,7 @@ counting-start o p text chair w z n h q e f =
 
 -- ---- the text
 
-pub root-occurs : (o : Order) (p text : List ℕ) (chair : ℕ) (w : List ℕ) → Placed o text chair w → Pattern p
+pub root-occurs : (o : Order) (p text : List ℕ) (chair : ℕ) (w : List ℕ) → Loaded o text chair w → Pattern p
     → occursIn o (tableOf o text chair) (map (rankOf o) p) (ruleCount (tableOf o text chair) - 1) ≡ map suc (occurrences p text)
 unfolding occursIn spelled
 root-occurs o p text chair w h q =

@@ -1,4 +1,4 @@
--- What the work slice holds while the occurrences of a pattern are counted: beside what `Placed` says, flags of the cuts that
+-- What the work slice holds while the occurrences of a pattern are counted: beside what `Loaded` says, flags of the cuts that
 -- are tried, from FLAGS on, and what is found in each rule, from FOUND on. p is the pattern as bytes.
 use mathlib.Core.Path.{_≡_}
 use mathlib.Core.List.{List, map}
@@ -10,7 +10,7 @@ use Rattle.lyndon.specs.Ranks.{Bytes}
 use Rattle.layout.specs.Layout.{FOUND}
 use Rattle.decoding.specs.declared.Rule.the-variants.{Symbol}
 use Rattle.decoding.specs.Decoding.{ruleIn}
-use Rattle.places.specs.Places.{Placed}
+use Rattle.state.specs.State.{Loaded}
 use Rattle.joins.specs.Joining.{Flagged}
 use Rattle.search.specs.Found.{FoundIn}
 
@@ -22,14 +22,14 @@ pub record Pattern (p : List ℕ) : Type 0 where
 
 -- the first n rules are counted
 pub record Counting (o : Order) (p text : List ℕ) (chair n : ℕ) (w : List ℕ) : Type 0 where
-  pub loaded : Placed o text chair w
+  pub loaded : Loaded o text chair w
   pub pattern : Pattern p
   pub flagged : Flagged (map (rankOf o) p) w
   pub found : (r : ℕ) → r < n → FoundIn o (tableOf o text chair) (map (rankOf o) p) r (getD w (FOUND + r) 0)
 
 -- all rules are counted
 pub record Searched (o : Order) (p text : List ℕ) (chair : ℕ) (w : List ℕ) : Type 0 where
-  pub loaded : Placed o text chair w
+  pub loaded : Loaded o text chair w
   pub pattern : Pattern p
   pub found : (r : ℕ) → r < ruleCount (tableOf o text chair) → FoundIn o (tableOf o text chair) (map (rankOf o) p) r (getD w (FOUND + r) 0)
 
@@ -39,7 +39,7 @@ pub record Searched (o : Order) (p text : List ℕ) (chair : ℕ) (w : List ℕ)
 pub record Starts (o : Order) (rules : ℕ) (w : List ℕ) : Type 0 where
   pub text : List ℕ
   pub chair : ℕ
-  pub loaded : Placed o text chair w
+  pub loaded : Loaded o text chair w
   pub size : rules ≡ ruleCount (tableOf o text chair)
 
 -- the same, and the first n rules are counted

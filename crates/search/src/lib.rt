@@ -22,14 +22,14 @@ ghost use lib.ListN.{length};
 ghost use Rattle.definitions.specs.Table.{rankOf, tableOf, ruleCount};
 ghost use Rattle.definitions.specs.Occurrences.{occurrences};
 ghost use Rattle.layout.specs.Layout.{PACK};
-ghost use Rattle.places.specs.Places.{Placed};
+ghost use Rattle.state.specs.State.{Loaded};
 ghost use Rattle.search.specs.Found.{FoundIn};
 ghost use Rattle.search.specs.Searching.{Counting, Searched, Starts, Counts, CountedBefore, SymbolTurn};
 
 // Counts the occurrences of a pattern in the text that is loaded, whose table has so many rules.
 pub fn count(order: Order, pattern: &[u8], work: &mut [u32], rules: usize) -> usize
     requires { ⌜ Starts order rules (now work) × (0 < length (now pattern)) × (length (now pattern) ≤ 2047) ⌝ }
-    ensures { λ n. ⌜ ((text : List ℕ) (chair : ℕ) → Placed order text chair (now (work .entry)) → rules ≡ ruleCount (tableOf order text chair) → (n ≡ length (occurrences (now (pattern .entry)) text)) × Searched order (now (pattern .entry)) text chair (now (work .exit))) ⌝ }
+    ensures { λ n. ⌜ ((text : List ℕ) (chair : ℕ) → Loaded order text chair (now (work .entry)) → rules ≡ ruleCount (tableOf order text chair) → (n ≡ length (occurrences (now (pattern .entry)) text)) × Searched order (now (pattern .entry)) text chair (now (work .exit))) ⌝ }
 {
     cuts::flag(order, pattern, &mut work[FLAGS..FLAGS_END]);
     count_rules(order, pattern, work, rules);

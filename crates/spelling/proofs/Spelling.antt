@@ -19,7 +19,8 @@ use Rattle.lyndon.specs.Shapes.{Shaped}
 use Rattle.decoding.specs.declared.Rule.{Rule}
 use Rattle.decoding.specs.declared.Rule.the-variants.{Symbol, Pair}
 use Rattle.decoding.specs.Decoding.{ruleAt}
-use Rattle.decoding.proofs.Rules.{SymbolOf, PairOf, symbol-read, pair-read}
+use Rattle.lyndon.specs.Ruled.{SymbolOf, PairOf}
+use Rattle.decoding.proofs.Rules.{symbol-read, pair-read}
 use Rattle.spelling.specs.Spelling.{samples, symbolBytes, ruleBytes}
 
 -- ---- samples of strings

@@ -1,45 +1,39 @@
 -- What is loaded: the length of the text (`loaded-length`), the table whose root spells it (`loaded-root`), and its parts (`loaded-piece`).
-use mathlib.Core.Path.{_≡_, refl, sym, _∙_, ap, subst}
-use mathlib.Core.List.{List, [], map, append-nil}
+use mathlib.Core.Path.{_≡_, sym, _∙_, ap, subst}
+use mathlib.Core.List.{List, map}
 use Prim.Native.Nat.{ℕ, suc, _+_, _-_, _*_, _≤_, _<_}
 use native.Mathlib.Omega.{arith}
 use lib.ListN.{length, take, drop, getD, length-take, length-drop, length-map}
 use lib.Seq.{getD-take, getD-drop}
 use Rattle.definitions.specs.declared.Order.{Order}
-use Rattle.definitions.specs.Table.{rankOf, byteOf, marked, tableOf, ruleCount}
+use Rattle.definitions.specs.Table.{rankOf, byteOf, marked, tableOf, spelled, ruleCount}
 use Rattle.lists.specs.Members.{at-in, in-map, take-map, drop-map}
-use Rattle.lists.specs.Parts.{part, part-taken, part-at, part-part}
-use Rattle.lyndon.specs.Forest.{longest, longests, longest-fits, longest-most}
-use Rattle.lyndon.specs.Ranks.{Bytes, rank-range, bytes-back, slice-bytes, marked-length, marked-lyndon}
-use Rattle.lyndon.specs.Stored.{table-length, rule-range, table-accepted, table-text}
+use Rattle.lists.specs.Parts.{part, part-taken, part-part}
+use Rattle.lyndon.specs.Ranks.{Bytes, rank-range, bytes-back, slice-bytes, marked-length}
+use Rattle.lyndon.specs.Stored.{table-length, rule-range, table-accepted, table-text, table-spelled}
 use Rattle.lyndon.specs.Shapes.{Shaped, stored-shaped}
-use Rattle.layout.specs.Layout.{LONGEST, TABLE}
-use Rattle.grammar.specs.Loaded.{Ready}
+use Rattle.layout.specs.Layout.{LENGTHS, TABLE}
+use Rattle.state.specs.State.{Ready}
 use Rattle.spelling.specs.Spelling.{Ranks, ruleBytes}
 use Rattle.spelling.proofs.Spelling.{root-bytes}
 
 -- ---- the length of the text
 
--- the marked text is its own longest Lyndon word
-whole-longest : (o : Order) (text : List ℕ) → Bytes text → longest (marked o text) ≡ suc (length text)
-whole-longest o text h =
-    omega (
-      arith,
-      longest-fits (marked o text),
-      longest-most (marked o text) (marked o text) [] (sym (append-nil (marked o text))) (marked-lyndon o text h),
-      marked-length o text,
+-- the root spells the marked text
+pub loaded-length : (w : List ℕ) (h : Ready w) (n : ℕ) → n ≡ ruleCount (tableOf (h .order) (h .text) (h .chair))
+    → (getD w (LENGTHS + (n - 1)) 0 ≡ suc (length (h .text))) × (0 < n) × (n ≤ 2304)
+unfolding spelled
+loaded-length w h n e =
+    let k = h .loaded .kept in
+    let (some, most) = rule-range (h .order) (h .text) (h .chair) (k .stored) in
+    let root = ruleCount (tableOf (h .order) (h .text) (h .chair)) - 1 in (
+      ap (λ (i : ℕ). getD w (LENGTHS + (i - 1)) 0) e
+          ∙ h .loaded .sizes root (omega arith)
+          ∙ ap length (table-spelled (h .order) (h .text) (h .chair) (k .stored))
+          ∙ marked-length (h .order) (h .text),
+      omega arith,
+      omega arith,
     )
-
-first-longests : (o : Order) (text : List ℕ) → getD (longests (marked o text)) 0 0 ≡ longest (marked o text)
-unfolding longests marked
-first-longests o text = refl
-
-pub loaded-length : (w : List ℕ) (h : Ready w) → getD w LONGEST 0 ≡ suc (length (h .text))
-loaded-length w h =
-    sym (part-at LONGEST (suc (length (h .text))) w 0 0 (omega arith))
-    ∙ ap (λ (l : List ℕ). getD l 0 0) (h .loaded .first)
-    ∙ first-longests (h .order) (h .text)
-    ∙ whole-longest (h .order) (h .text) (h .stored .bytes)
 
 -- ---- the table and the text that are loaded
 
@@ -55,8 +49,8 @@ pub record Root (rules text : List ℕ) (n : ℕ) : Type 0 where
 pub loaded-table : (w : List ℕ) (h : Ready w) (n : ℕ) → n ≡ ruleCount (tableOf (h .order) (h .text) (h .chair))
     → take (TABLE + 2 * n - TABLE) (drop TABLE w) ≡ tableOf (h .order) (h .text) (h .chair)
 loaded-table w h n e =
-    let size : TABLE + 2 * n - TABLE ≡ length (tableOf (h .order) (h .text) (h .chair)) = omega (arith, table-length (h .order) (h .text) (h .chair) (h .stored)) in
-    part-taken TABLE (TABLE + 2 * n - TABLE) (length (tableOf (h .order) (h .text) (h .chair))) w size ∙ h .loaded .table
+    let size : TABLE + 2 * n - TABLE ≡ length (tableOf (h .order) (h .text) (h .chair)) = omega (arith, table-length (h .order) (h .text) (h .chair) (h .loaded .kept .stored)) in
+    part-taken TABLE (TABLE + 2 * n - TABLE) (length (tableOf (h .order) (h .text) (h .chair))) w size ∙ h .loaded .kept .table
 
 pub loaded-root : (w : List ℕ) (h : Ready w) (n : ℕ) → n ≡ ruleCount (tableOf (h .order) (h .text) (h .chair))
     → Root (take (TABLE + 2 * n - TABLE) (drop TABLE w)) (h .text) n
@@ -67,8 +61,8 @@ loaded-root w h n e = subst (λ (l : List ℕ). Root l (h .text) n) (sym (loaded
 
     whole : Root (tableOf (h .order) (h .text) (h .chair)) (h .text) n
     whole =
-        let s = stored-shaped (h .order) (h .text) (h .chair) (h .stored) in
-        let (some, most) = rule-range (h .order) (h .text) (h .chair) (h .stored) in
+        let s = stored-shaped (h .order) (h .text) (h .chair) (h .loaded .kept .stored) in
+        let (some, most) = rule-range (h .order) (h .text) (h .chair) (h .loaded .kept .stored) in
         record {
           shaped = s;
           some = omega arith;
@@ -76,8 +70,8 @@ loaded-root w h n e = subst (λ (l : List ℕ). Root l (h .text) n) (sym (loaded
           low = omega arith;
           bytes =
               ap (λ (k : ℕ). ruleBytes t (k - 1)) e
-              ∙ root-bytes (h .order) t s (table-accepted (h .order) (h .text) (h .chair) (h .stored))
-              ∙ table-text (h .order) (h .text) (h .chair) (h .stored);
+              ∙ root-bytes (h .order) t s (table-accepted (h .order) (h .text) (h .chair) (h .loaded .kept .stored))
+              ∙ table-text (h .order) (h .text) (h .chair) (h .loaded .kept .stored);
         }
 
 -- of the ranks at the front, those from 1 + start on are samples: those of a part of the text
@@ -115,8 +109,8 @@ loaded-piece w h start count k =
     part-taken (1 + start) (1 + start + count - (1 + start)) count w many
     ∙ ap (λ (o : ℕ). part o count w) next
     ∙ sym (part-part 0 (suc (length (h .text))) (suc start) count w (omega arith))
-    ∙ ap (part (suc start) count) (h .loaded .ranks)
+    ∙ ap (part (suc start) count) (h .loaded .kept .ranks)
     ∙ marked-piece (h .order) (h .text) start count in
     subst (λ (l : List ℕ). Piece (h .order) l piece count) (sym ranks)
     (subst (λ (n : ℕ). Piece (h .order) (map (rankOf (h .order)) piece) piece n) size
-    (ranks-piece (h .order) piece (piece-bytes (h .text) start count (h .stored .bytes) k)))
+    (ranks-piece (h .order) piece (piece-bytes (h .text) start count (h .loaded .kept .stored .bytes) k)))

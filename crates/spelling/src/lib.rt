@@ -2,7 +2,7 @@
 use decoding::Rule;
 use decoding::rule_of;
 use definitions::Order;
-use layout::LONGEST;
+use layout::LENGTHS;
 use layout::TABLE;
 use ranks::byte_of;
 use slices::wide;
@@ -12,16 +12,16 @@ ghost use Prim.Native.Nat.{_+_, _≤_, _<_};
 ghost use lib.ListN.{length, take, drop};
 ghost use Rattle.definitions.specs.Words.{placed};
 ghost use Rattle.definitions.specs.Table.{byteOf, ruleCount};
-ghost use Rattle.grammar.specs.Loaded.{Ready, rulesLoaded};
+ghost use Rattle.state.specs.State.{Ready, rulesLoaded};
 ghost use Rattle.lyndon.specs.Shapes.{Shaped};
 ghost use Rattle.spelling.specs.Spelling.{Ranks, symbolBytes, ruleBytes};
 
-// The number of samples of the text that is loaded: the marked text is one Lyndon word, whose length stands first.
-pub fn text_length(work: &[u32]) -> usize
-    requires { ⌜ Ready (now work) ⌝ }
-    ensures { λ n. ⌜ ((h : Ready (now (work .entry))) → n ≡ length (h .text)) ⌝ }
+// The number of samples of the text that is loaded, whose table has so many rules: the root's length without the mark.
+pub fn text_length(rules: usize, work: &[u32]) -> usize
+    requires { ⌜ ((h : Ready (now work)) × (rules ≡ rulesLoaded h)) ⌝ }
+    ensures { λ n. ⌜ ((h : Ready (now (work .entry))) → rules ≡ rulesLoaded h → n ≡ length (h .text)) ⌝ }
 {
-    wide(work[LONGEST]) - 1
+    wide(work[LENGTHS + (rules - 1)]) - 1
 }
 
 // Spells the text that is loaded, whose table has so many rules, at the front of a slice.
@@ -68,7 +68,7 @@ fn spell_symbol(number: u32, result: &mut [u8]) -> usize
 // Writes the part of the text that is loaded, `count` samples from `start` on, at the front of a slice.
 pub fn write_part(order: Order, start: usize, count: usize, work: &[u32], result: &mut [u8])
     requires { ⌜ ((h : Ready (now work)) × (h .order ≡ order) × (start + count ≤ length (h .text)) × (count ≤ length (now result))) ⌝ }
-    ensures { λ _. ⌜ ((h : Ready (now (work .entry))) → h .order ≡ order → now (result .exit) ≡ placed (take count (drop start (h .text))) (now (result .entry))) ⌝ }
+    ensures { λ _. ⌜ ((h : Ready (now (work .entry))) → h .order ≡ order → start + count ≤ length (h .text) → now (result .exit) ≡ placed (take count (drop start (h .text))) (now (result .entry))) ⌝ }
 {
     let from = 1 + start;
     let end = from + count;

@@ -1,131 +1,148 @@
--- Loading: what a shaped table spells, if it begins with the only mark, is the marked text that the table gives; making the table of that
--- text again and comparing decides whether the table is accepted.
-use mathlib.Core.Path.{_≡_, refl, sym, _∙_, ap, ap₂, subst}
-use mathlib.Core.Bool.{Bool, true, false}
-use mathlib.Core.List.{List, [], _∷_, map, List·Memᴰ as In, List·Memᴰ·head as here, List·Memᴰ·tail as there}
-use Prim.Native.Nat.{ℕ, zero, suc, _+_, _-_, _*_, _≤_, _<_}
+-- The end of loading: what stands at the front is what the table spells (`front-spelled`), so the mark at its front, and nowhere else, is the last thing
+-- to judge (`unmarked`, `marked-sound`); then the table is copied behind, and the text is loaded (`kept-loaded`).
+use mathlib.Core.Path.{_≡_, refl, sym, _∙_, ap, subst}
+use mathlib.Core.Bool.{true, false}
+use mathlib.Core.List.{List, _++_, append-assoc}
+use Prim.Native.Nat.{ℕ, suc, _+_, _-_, _≤_, _<_}
 use native.Mathlib.Omega.{arith}
 use native.Mathlib.Nat.{zero-add}
-use lib.ListN.{length, take, drop, getD}
-use borrow.Author.Tests.{le-leb}
+use lib.ListN.{length, take, drop, getD, length-append, length-take, length-drop}
+use lib.Seq.{getD-take, take-length, drop-at, length-take-le}
 use Rattle.definitions.specs.declared.Answer.the-variants.{Done, Refused}
 use Rattle.definitions.specs.declared.Order.{Order}
-use Rattle.definitions.specs.Words.{same}
-use Rattle.definitions.specs.Grammar.{order}
-use Rattle.definitions.specs.Table.{rankOf, byteOf, marked, tableOf, spelled, textOf, chairOf, isChair, isTable, ruleCount}
+use Rattle.definitions.specs.Words.{placed}
+use Rattle.definitions.specs.Table.{ruleString, spelled, textOf, chairOf, isTable, ruleCount}
 use Rattle.lists.specs.Bools.{contra, not-so}
-use Rattle.lists.specs.Members.{at-in, in-at, in-map}
-use Rattle.lists.specs.Parts.{part-length, part-at}
-use Rattle.lyndon.specs.Ranks.{Bytes, rank-of-byte, byte-range, rank-range, is-drive, marked-length}
-use Rattle.lyndon.specs.Stored.{Stored, accepted-stored, accepted-spelled}
-use Rattle.lyndon.specs.Shapes.{string-ranks, chair-small}
-use Rattle.layout.specs.Layout.{TABLE}
-use Rattle.grammar.specs.Loaded.{Marked, Loaded, loaded-words, rules-most}
-use Rattle.tables.specs.Loading.{Front, Rooted, Judged}
+use Rattle.lists.specs.Parts.{part, part-at, part-agree, part-front, lent-before, lent-length}
+use Rattle.lyndon.specs.Ranks.{marked-length}
+use Rattle.lyndon.specs.Stored.{accepted-stored, accepted-spelled, accepted-table}
+use Rattle.lyndon.specs.Shapes.{string-filled}
+use Rattle.lyndon.specs.Marks.{marked-is, is-marked}
+use Rattle.lyndon.specs.Filling.{Stands}
+use Rattle.lyndon.specs.Judging.{judged}
+use Rattle.layout.specs.Layout.{LENGTHS, PLACES, TABLE, WORK, lengthIn, placeIn}
+use Rattle.lengths.proofs.Sizes.{rules-few}
+use Rattle.entries.proofs.Steps.{spelled-length, spelled-short}
+use Rattle.state.specs.State.{Loaded}
+use Rattle.tables.specs.Loading.{Front, Spelled, Judged}
 
--- ---- ranks of samples
+-- ---- answers
 
-ranks-back : (o : Order) (l : List ℕ) → ((a : ℕ) → In a l → (0 < a) × (a < 257)) → map (rankOf o) (map (byteOf o) l) ≡ l
-ranks-back o [] h = refl
-ranks-back o (a ∷ l) h =
-    ap₂ {C = List ℕ} (λ x m. x ∷ m) (rank-of-byte o a (h a (here refl) .0) (h a (here refl) .1)) (ranks-back o l (λ x m. h x (there m)))
+pub refused : (o : Order) (t v : List ℕ) → isTable o t ≡ false → Judged o t v (Refused 7 0)
+refused o t v e = record { answer = rw e; loaded = λ q. contra q e }
 
--- the mark and then samples
-samples-of : (o : Order) (x : List ℕ) → 0 < length x → getD x 0 0 ≡ 0 → ((i : ℕ) → 0 < i → i < length x → 0 < getD x i 0) → ((a : ℕ) → In a x → a < 257)
-    → (marked o (map (byteOf o) (drop 1 x)) ≡ x) × Bytes (map (byteOf o) (drop 1 x))
-unfolding marked
-samples-of o [] f e h k = absurd (omega arith)
-samples-of o (a ∷ l) f e h k =
-    (ap₂ {C = List ℕ} (λ x m. x ∷ m) (sym e) (ranks-back o l (λ b m. (low b m, k b (there m)))), λ b m. let (r, i, q) = in-map (byteOf o) b l m in rw q (byte-range o r (k r (there i))))
-  where
-    low : (b : ℕ) → In b l → 0 < b
-    low b m = let (i, q, g) = in-at b l m in subst (λ (z : ℕ). 0 < z) g (h (suc i) (omega arith) (omega arith))
+pub accepted : (o : Order) (t v : List ℕ) → isTable o t ≡ true → Loaded o (textOf o t) (chairOf t) v → Judged o t v (Done (ruleCount t))
+accepted o t v e l = record { answer = rw e; loaded = λ q. l }
 
--- behind the mark of a marked text there is none
-marked-front : (o : Order) (text : List ℕ) → Bytes text → (i : ℕ) → 0 < i → i < length (marked o text) → 0 < getD (marked o text) i 0
-unfolding marked
-marked-front o text h zero l k = absurd (omega arith)
-marked-front o text h (suc i) l k =
-    let (b, m, e) = in-map (rankOf o) (getD (map (rankOf o) text) i 0) text (at-in (map (rankOf o) text) i (omega arith)) in
-    rw e (rank-range o b (h b m) .0)
+-- ---- all rules are written
 
-marked-first : (o : Order) (text : List ℕ) → getD (marked o text) 0 0 ≡ 0
-unfolding marked
-marked-first o text = refl
+module _ {t w : List ℕ} (k : Spelled t w) where
+  root : ℕ
+  root = ruleCount t - 1
 
--- ---- an accepted table
+  root-low : root < ruleCount t
+  unfolding root
+  root-low = omega (arith, k .filling .placed .sized .lent .shaped .even, k .filling .placed .sized .lent .shaped .filled)
 
-pub too-long : (o : Order) (t : List ℕ) → 2048 < length (spelled o t) → false ≡ isTable o t
-too-long o t h = sym (not-so (isTable o t) (λ e. omega (arith, ap length (accepted-spelled o t e), marked-length o (textOf o t), accepted-stored o t e .short)))
+  -- how many symbols the root spells
+  pub front-size : (n : ℕ) → n ≡ lengthIn w (ruleCount t - 1) → (n ≡ length (spelled (k .order) t)) × (n ≤ 2048) × (ruleCount t ≤ 2304) × (0 < ruleCount t)
+  unfolding root
+  front-size n e =
+      let few = rules-few (k .filling .placed .sized .lent) in
+      let some = root-low in
+      let size = e ∙ spelled-length (k .filling .placed .sized) (k .order) in
+      (size, omega (arith, spelled-short (k .filling .placed .sized) (k .order)), few, omega arith)
 
-pub refused : (o : Order) (t v : List ℕ) → false ≡ isTable o t → Judged o t v (Refused 7 0)
-refused o t v e = record { answer = rw (sym e); loaded = λ q. contra q (sym e) }
+  pub front-filled : (n : ℕ) → n ≡ lengthIn w (ruleCount t - 1) → 0 < n
+  unfolding spelled root
+  front-filled n e = omega (arith, front-size n e .0, string-filled (k .order) t (k .filling .placed .sized .lent .shaped) root root-low)
 
-pub accepted : (o : Order) (t v : List ℕ) → true ≡ isTable o t → Loaded o (textOf o t) (chairOf t) v → Judged o t v (Done (ruleCount t))
-accepted o t v e l = record { answer = rw (sym e); loaded = λ q. l }
+  pub front-spelled : part 0 (length (spelled (k .order) t)) w ≡ spelled (k .order) t
+  unfolding spelled root part
+  front-spelled =
+      let s = ruleString (k .order) t root in
+      let at = k .filling .placed .places root root-low (k .order) in
+      let zero-place : placeIn w root ≡ 0 = omega (arith, at .inside) in
+      subst (λ (x : ℕ). part x (length s) w ≡ part x (length s) s) zero-place (k .filling .filled root root-low) ∙ take-length s
 
--- ---- n ranks at the front of the work slice are what the table spells
+  at-front : (i : ℕ) → i < length (spelled (k .order) t) → getD (spelled (k .order) t) i 0 ≡ getD w i 0
+  at-front i h =
+      ap (λ (l : List ℕ). getD l i 0) (sym front-spelled)
+      ∙ part-at 0 (length (spelled (k .order) t)) w i 0 h
+      ∙ ap (λ (j : ℕ). getD w j 0) (zero-add i)
 
-module _ {o : Order} {t w : List ℕ} {n : ℕ} (r : Rooted o t w n) where
-  size : length (spelled o t) ≡ n
-  size = ap length (sym (r .whole)) ∙ part-length 0 n w (omega (arith, r .most, r .long))
+  module _ (n : ℕ) (e : n ≡ lengthIn w (ruleCount t - 1)) where
+    pub unmarked : (Front w n → ⊥) → isTable (k .order) t ≡ false
+    unmarked never = not-so (isTable (k .order) t) (λ a.
+        let f = marked-is (spelled (k .order) t) (judged (k .order) t (k .filling .placed .sized .lent .shaped) .0 a .root) in
+        let size = front-size n e .0 in
+        never (record {
+          mark = sym (at-front 0 (f .filled)) ∙ f .mark;
+          samples = λ i l h. subst (λ (z : ℕ). 0 < z) (at-front i (omega arith)) (f .samples i l (omega arith));
+        }))
 
-  at-front : (i : ℕ) → i < n → getD (spelled o t) i 0 ≡ getD w i 0
-  at-front i h = ap (λ (l : List ℕ). getD l i 0) (sym (r .whole)) ∙ part-at 0 n w i 0 h ∙ ap (λ (k : ℕ). getD w k 0) (zero-add i)
+    pub marked-sound : 0 < n → Front w n → isTable (k .order) t ≡ true
+    marked-sound some f =
+        let (size, short, few, _) = front-size n e in
+        judged (k .order) t (k .filling .placed .sized .lent .shaped) .1 (record {
+          root = is-marked (spelled (k .order) t) (record {
+            filled = omega arith;
+            short = omega arith;
+            mark = at-front 0 (omega arith) ∙ f .mark;
+            samples = λ i l h. subst (λ (z : ℕ). 0 < z) (sym (at-front i h)) (f .samples i l (omega arith));
+          });
+          distinct = k .new;
+          standard = k .filling .standard;
+          met = k .filling .placed .met;
+        })
 
-  pub unmarked : (Front w n → ⊥) → false ≡ isTable o t
-  unmarked h = sym (not-so (isTable o t) (λ e.
-      let same-list = accepted-spelled o t e in
-      h (record {
-        mark = sym (at-front 0 (r .filled)) ∙ ap (λ (l : List ℕ). getD l 0 0) same-list ∙ marked-first o (textOf o t);
-        samples = λ i l k.
-            subst (λ (z : ℕ). 0 < z) (ap (λ (l : List ℕ). getD l i 0) (sym same-list) ∙ at-front i k)
-            (marked-front o (textOf o t) (accepted-stored o t e .bytes) i l (omega (arith, ap length same-list, size)));
-      })))
+  -- ---- the table is copied behind
 
-  module _ (f : Front w n) where
-    pub text-bytes : (marked o (textOf o t) ≡ spelled o t) × Bytes (textOf o t)
-    unfolding textOf spelled
-    text-bytes =
-        samples-of o (spelled o t) (omega (arith, size, r .filled)) (at-front 0 (r .filled) ∙ f .mark)
-        (λ i h k. subst (λ (z : ℕ). 0 < z) (sym (at-front i (omega (arith, size)))) (f .samples i h (omega (arith, size))))
-        (string-ranks-root)
-      where
-        string-ranks-root : (a : ℕ) → In a (spelled o t) → a < 257
-        string-ranks-root = string-ranks o t (r .shaped) (ruleCount t - 1) (omega (arith, r .shaped .even, r .shaped .filled))
+  module _ (a : isTable (k .order) t ≡ true) (z : List ℕ) (e : z ≡ placed t (take 4608 (drop TABLE w))) where
+    long : WORK ≤ length w
+    long = k .filling .placed .sized .lent .long
 
-    pub text-size : suc (length (textOf o t)) ≡ n
-    text-size = omega (arith, marked-length o (textOf o t), ap length (text-bytes .0), size)
+    area : length (take 4608 (drop TABLE w)) ≡ 4608
+    area = simp (length-take, length-drop) (omega (arith, long))
 
-    pub text-stored : Stored (textOf o t) (chairOf t)
-    unfolding chairOf
-    text-stored = record { short = omega (arith, text-size, r .most); bytes = text-bytes .1; chairs = chair-small t (r .shaped) }
+    copied-size : length z ≡ 4608
+    unfolding placed
+    copied-size = ap length e ∙ simp (length-append, length-drop) (omega (arith, area, k .filling .placed .sized .lent .few))
 
-    -- so the front is a marked text; c is the chair number as it was read
-    unfoldable pub rooted-marked : (c : ℕ) → c ≡ chairOf t → Marked o n c w
-    rooted-marked c e =
-        record { text = textOf o t; stored = subst (Stored (textOf o t)) (sym e) text-stored; size = sym text-size; front = r .whole ∙ sym (text-bytes .0); long = r .long }
+    before : take TABLE (take TABLE w ++ (z ++ drop 4608 (drop TABLE w))) ≡ take TABLE w
+    before = lent-before w z TABLE 4608 (omega (arith, long)) copied-size TABLE (omega arith)
 
-    -- comparing decides
-    compared : (b : Bool) → b ≡ same (tableOf o (textOf o t) (chairOf t)) t → b ≡ isTable o t
-    unfolding isTable isChair
-    compared b e =
-        rw (is-drive (textOf o t) (text-stored .short) (text-stored .bytes), le-leb (chairOf t) 65535 (omega (arith, text-stored .chairs))) e
+    at-same : (i : ℕ) → i < TABLE → getD (take TABLE w ++ (z ++ drop 4608 (drop TABLE w))) i 0 ≡ getD w i 0
+    at-same i h =
+        let v = take TABLE w ++ (z ++ drop 4608 (drop TABLE w)) in
+        sym (getD-take TABLE v i 0 h) ∙ ap (λ (l : List ℕ). getD l i 0) before ∙ getD-take TABLE w i 0 h
 
-    -- the table is made again: it has k rules, and comparing it decides
-    pub record Remade (v : List ℕ) (k : ℕ) : Type 0 where
-      pub most : k ≤ 2304
-      pub loaded : Loaded o (textOf o t) (chairOf t) v
-      pub decides : (b : Bool) → b ≡ same (take (TABLE + 2 * k - TABLE) (drop TABLE v)) t → b ≡ isTable o t
+    behind : part TABLE (length t) (take TABLE w ++ (z ++ drop 4608 (drop TABLE w))) ≡ t
+    unfolding placed
+    behind =
+        part-front TABLE (length t) (take TABLE w ++ (z ++ drop 4608 (drop TABLE w))) t (drop (length t) (take 4608 (drop TABLE w)) ++ drop 4608 (drop TABLE w))
+        (drop-at (take TABLE w) (z ++ drop 4608 (drop TABLE w)) TABLE (length-take-le TABLE w (omega (arith, long)))
+        ∙ ap (λ (l : List ℕ). l ++ drop 4608 (drop TABLE w)) e
+        ∙ append-assoc t (drop (length t) (take 4608 (drop TABLE w))) (drop 4608 (drop TABLE w)))
+        refl
 
-    pub remade : (v : List ℕ) (k c : ℕ) → c ≡ chairOf t
-        → ((m : Marked o n c w) → Loaded o (m .text) c v × (k ≡ length (order (marked o (m .text))))) → Remade v k
-    unfolding rooted-marked
-    remade v k c e h =
-        let (l, q) = h (rooted-marked c e) in
-        let m : Loaded o (textOf o t) (chairOf t) v = subst (λ (d : ℕ). Loaded o (textOf o t) d v) e l in
+    pub kept-loaded : Loaded (k .order) (textOf (k .order) t) (chairOf t) (take TABLE w ++ (z ++ drop 4608 (drop TABLE w)))
+    kept-loaded =
+        let o = k .order in
+        let v = take TABLE w ++ (z ++ drop 4608 (drop TABLE w)) in
+        let same = accepted-table o t a in
+        let text = accepted-spelled o t a in
+        let few = rules-few (k .filling .placed .sized .lent) in
+        let short = spelled-short (k .filling .placed .sized) o in
+        let size : suc (length (textOf o t)) ≡ length (spelled o t) = omega (arith, marked-length o (textOf o t), ap length text) in
         record {
-          most = rules-most o (textOf o t) (chairOf t) k text-stored q;
-          loaded = m;
-          decides = λ b g. compared b (g ∙ ap (λ (x : List ℕ). same x t) (loaded-words o (textOf o t) v (chairOf t) k text-stored m q));
+          kept = record {
+            long = omega (arith, lent-length w z TABLE 4608 (omega (arith, long)) copied-size, long);
+            stored = accepted-stored o t a;
+            ranks = ap (λ (n : ℕ). part 0 n v) size ∙ part-agree TABLE 0 (length (spelled o t)) w v before (omega arith) ∙ front-spelled ∙ text;
+            table = rw same behind;
+          };
+          sizes = λ r l. let low = subst (λ (x : List ℕ). r < ruleCount x) same l in rw same (at-same (LENGTHS + r) (omega arith) ∙ k .filling .placed .sized .sizes o r low);
+          places = λ r l. let low = subst (λ (x : List ℕ). r < ruleCount x) same l in
+              rw (same, sym text) (subst (Stands (spelled o t) (ruleString o t r)) (sym (at-same (PLACES + r) (omega arith))) (k .filling .placed .places r low o));
         }

@@ -5,7 +5,7 @@ use Prim.Native.Nat.{ℕ}
 use native.Mathlib.Omega.{arith}
 use borrow.Author.Needs.{needs}
 use Rattle.definitions.specs.Services.{sampleOrder, writes, Serves, Answers}
-use Rattle.grammar.specs.Loaded.{rules-most, loaded-words}
+use Rattle.grammar.specs.Built.{rules-most, built-words}
 use Rattle.building.proofs.build_in.Statement.{statement}
 use Rattle.building.proofs.build_in.Tie as tie
 
@@ -33,7 +33,7 @@ returns c =
     let t = d .before .before .before .before .before .before in
     let a = t .before .before .before .before .before .args in
     subst (λ (l : List ℕ). Serves (writes [] l 0 (a .result .now)) (Answers (d .deliver .result)) (d .deliver .last .1 .0 ∷ []))
-    (loaded-words sampleOrder (a .text .now) (t .table .last .1 .1 .1 .0) (a .chair) (t .table .result) (t .table .ensures .0) (t .table .ensures .1) (t .table .ensures .2))
+    (built-words sampleOrder (a .text .now) (t .table .last .1 .1 .1 .0) (a .chair) (t .table .result) (t .table .ensures .0) (t .table .ensures .1) (t .table .ensures .2))
     (d .deliver .ensures)
 
 pub build-in-spec : {M : Type 1} → statement M

@@ -26,7 +26,7 @@ add-end c =
 part-chair-of-end : tie.Need-part-chair-of-end
 part-chair-of-end c =
     let s = c .before .before in
-    omega (arith, loaded-root (s .args .work .now) (s .pre .0) (s .args .rules) (s .pre .1) .most, s .pre .0 .loaded .long)
+    omega (arith, loaded-root (s .args .work .now) (s .pre .0) (s .args .rules) (s .pre .1) .most, s .pre .0 .loaded .kept .long)
 
 chair-of-requires : tie.Need-chair-of-requires
 chair-of-requires c κs =
@@ -39,7 +39,7 @@ returns c h e =
     let k = d .before .before in
     let s = k .before .before .before .before in
     let w = s .args .work .now in
-    let chair = k .chair-of .ensures ∙ ap chairOf (loaded-table w h (s .args .rules) e) ∙ table-chair (h .order) (h .text) (h .chair) (h .stored) in
+    let chair = k .chair-of .ensures ∙ ap chairOf (loaded-table w h (s .args .rules) e) ∙ table-chair (h .order) (h .text) (h .chair) (h .loaded .kept .stored) in
     let r = d .deliver-text .result in
     restated (λ i j q. ap readOutcome (c .with-chair .ensures) ∙ chair-refused r (k .chair-of .result) i j q)
     (λ q. ap readOutcome (c .with-chair .ensures) ∙ chair-done r (k .chair-of .result) (length (h .text)) q ∙ ap (λ (n : ℕ). done (length (h .text)) n) chair)

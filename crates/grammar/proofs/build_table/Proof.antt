@@ -6,7 +6,7 @@ use lib.ListN.{length}
 use borrow.Author.Needs.{needs}
 use Rattle.definitions.specs.Grammar.{Rule}
 use Rattle.stack.specs.Areas.{Rules}
-use Rattle.grammar.specs.Loaded.{Loaded}
+use Rattle.grammar.specs.Built.{Built}
 use Rattle.grammar.proofs.Tabling.{ended-numbers, ended-numbered, rules-size, tabled}
 use Rattle.grammar.proofs.build_table.Statement.{statement}
 use Rattle.grammar.proofs.build_table.Tie as tie
@@ -28,7 +28,7 @@ returns c =
     λ m.
     let same = ended-numbered (a .order) (a .n) (a .chair) (a .work .now) (e .ends .last .0) m (e .ends .ensures) (e .ends .kept .0) in
     let (k, n, b) = r .rules .ensures in (
-      subst (λ (l : List ℕ). Loaded (a .order) (m .text) (a .chair) l) (sym (q .put .ensures))
+      subst (λ (l : List ℕ). Built (a .order) (m .text) (a .chair) l) (sym (q .put .ensures))
           (tabled (a .order) (a .n) (a .chair) (a .work .now) (e .ends .last .0) m (e .ends .ensures) (e .ends .kept .0) (r .rules .last .1 .1 .0)
           (subst (λ (K : List Rule). Rules (a .order) K (r .rules .last .1 .1 .0)) same k) b),
       n ∙ ap length same ∙ rules-size (a .order) (a .n) (a .chair) (a .work .now) (e .ends .last .0) m (e .ends .ensures) (e .ends .kept .0),

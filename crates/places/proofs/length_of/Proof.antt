@@ -7,7 +7,7 @@ use borrow.Author.Needs.{needs}
 use Rattle.layout.specs.Layout.{lengthIn}
 use Rattle.decoding.specs.declared.Rule.the-variants.{Pair}
 use Rattle.decoding.specs.Decoding.{ruleIn}
-use Rattle.places.proofs.Rules.{kept-symbol, kept-pair}
+use Rattle.state.proofs.Rules.{kept-symbol, kept-pair}
 use Rattle.places.proofs.Sizes.{pair-length}
 use Rattle.places.proofs.length_of.Statement.{statement}
 use Rattle.places.proofs.length_of.Tie as tie
@@ -17,7 +17,7 @@ returns c =
     let (q, e) = c .enum-told .given in
     let r = c .before .before in
     let a = r .before .before .args in
-    λ g h k. sym (ap length (kept-symbol g (a .work .now) (k .kept) (a .r) h (q .0) (q .1 .0) (sym (r .rule-in .ensures) ∙ e) .string (g .order)))
+    λ g h k. sym (ap length (kept-symbol (k .kept) (a .r) h (q .0) (q .1 .0) (sym (r .rule-in .ensures) ∙ e) .string (g .order)))
 
 -- the rule is a pair of rules before it, and not too long
 pair-known : (c : tie.After-rule) → let a = c .before .before .before .before .args in
@@ -31,7 +31,7 @@ pair-known c =
     let a = s .args in
     let (g, h, k) = s .pre in
     let f = sym (r .rule-in .ensures) ∙ e in
-    let p = kept-pair g (a .work .now) (k .kept) (a .r) h (q .0) (q .1 .0) f in
+    let p = kept-pair (k .kept) (a .r) h (q .0) (q .1 .0) f in
     let (sum, short) = pair-length g (a .work .now) (a .r) k h (q .0) (q .1 .0) p in
     (f, omega (arith, p .left, h, k .most), omega (arith, p .right, h, k .most), omega (arith, sum, short))
 
@@ -46,7 +46,7 @@ returns-2 c =
     let r = c .before .before .before in
     let a = r .before .before .before .before .args in
     let (q, e) = r .rule .given in
-    λ g h k. pair-length g (a .work .now) (a .r) k h (q .0) (q .1 .0) (kept-pair g (a .work .now) (k .kept) (a .r) h (q .0) (q .1 .0) (pair-known r .0)) .0
+    λ g h k. pair-length g (a .work .now) (a .r) k h (q .0) (q .1 .0) (kept-pair (k .kept) (a .r) h (q .0) (q .1 .0) (pair-known r .0)) .0
 
 pub length-of-spec : {M : Type 1} → statement M
 length-of-spec =

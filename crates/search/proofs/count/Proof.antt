@@ -7,7 +7,7 @@ use lib.ListN.{take, drop}
 use borrow.Author.Needs.{needs}
 use Rattle.lyndon.specs.Stored.{rule-range}
 use Rattle.layout.specs.Layout.{FLAGS}
-use Rattle.places.specs.Places.{Placed}
+use Rattle.state.specs.State.{Loaded}
 use Rattle.search.specs.Searching.{Counting}
 use Rattle.search.proofs.Starting.{pattern-here, counting-start, counted-text, counted-all}
 use Rattle.search.proofs.count.Statement.{statement}
@@ -15,7 +15,7 @@ use Rattle.search.proofs.count.Tie as tie
 
 -- once the live cuts are flagged no rule is counted yet
 started : (f : tie.After-flag) → let a = f .before .before .before .before .args in
-    (text : List ℕ) (chair : ℕ) → Placed (a .order) text chair (a .work .now)
+    (text : List ℕ) (chair : ℕ) → Loaded (a .order) text chair (a .work .now)
     → Counting (a .order) (a .pattern .now) text chair 0 (take FLAGS (a .work .now) ++ (f .flag .last .1 .1 .0 ++ drop (11008 - FLAGS) (drop FLAGS (a .work .now))))
 started f text chair h =
     let k = f .before .before .before in

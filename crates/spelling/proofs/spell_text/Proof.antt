@@ -15,7 +15,7 @@ root : (s : tie.Start) → Root (take (TABLE + 2 * s .args .rules - TABLE) (drop
 root s = loaded-root (s .args .work .now) (s .pre .0) (s .args .rules) (s .pre .1)
 
 part-spell-end : tie.Need-part-spell-end
-part-spell-end c = let s = c .before .before in omega (arith, root s .most, s .pre .0 .loaded .long)
+part-spell-end c = let s = c .before .before in omega (arith, root s .most, s .pre .0 .loaded .kept .long)
 
 spell-requires : tie.Need-spell-requires
 spell-requires c κs =

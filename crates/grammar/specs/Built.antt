@@ -1,5 +1,5 @@
 -- What the work slice holds of a text once its table is made: ranks, lengths of the longest Lyndon words, and the table, each as a
--- function of the text. Every service that reads rules starts from this state, however it came about.
+-- function of the text.
 use mathlib.Core.Path.{_≡_, _∙_, ap}
 use mathlib.Core.List.{List}
 use Prim.Native.Nat.{ℕ, suc, _+_, _-_, _*_, _≤_}
@@ -7,7 +7,7 @@ use native.Mathlib.Omega.{arith}
 use lib.ListN.{length, take, drop}
 use Rattle.definitions.specs.declared.Order.{Order}
 use Rattle.definitions.specs.Grammar.{order as orderOf}
-use Rattle.definitions.specs.Table.{marked, tableOf, ruleCount}
+use Rattle.definitions.specs.Table.{marked, tableOf}
 use Rattle.lists.specs.Parts.{part}
 use Rattle.lyndon.specs.Forest.{longests}
 use Rattle.lyndon.specs.Stored.{Stored, order-most, table-length}
@@ -22,29 +22,17 @@ pub record Marked (o : Order) (n chair : ℕ) (w : List ℕ) : Type 0 where
   pub long : WORK ≤ length w
 
 -- ranks, lengths of the longest Lyndon words and table of a text and a chair number
-pub record Loaded (o : Order) (text : List ℕ) (chair : ℕ) (w : List ℕ) : Type 0 where
+pub record Built (o : Order) (text : List ℕ) (chair : ℕ) (w : List ℕ) : Type 0 where
   pub long : WORK ≤ length w
   pub ranks : part 0 (suc (length text)) w ≡ marked o text
   pub first : part LONGEST (suc (length text)) w ≡ longests (marked o text)
   pub table : part TABLE (length (tableOf o text chair)) w ≡ tableOf o text chair
 
--- some text is loaded
-pub record Ready (w : List ℕ) : Type 0 where
-  pub order : Order
-  pub text : List ℕ
-  pub chair : ℕ
-  pub stored : Stored text chair
-  pub loaded : Loaded order text chair w
-
--- how many rules its table has
-abbrev pub rulesLoaded : {w : List ℕ} → Ready w → ℕ
-rulesLoaded h = ruleCount (tableOf (h .order) (h .text) (h .chair))
-
--- the words of the table that is loaded
-pub loaded-words : (o : Order) (text w : List ℕ) (chair r : ℕ) → Stored text chair → Loaded o text chair w → r ≡ length (orderOf (marked o text))
+-- the words of the table that is made
+pub built-words : (o : Order) (text w : List ℕ) (chair r : ℕ) → Stored text chair → Built o text chair w → r ≡ length (orderOf (marked o text))
     → take (TABLE + 2 * r - TABLE) (drop TABLE w) ≡ tableOf o text chair
 unfolding part
-loaded-words o text w chair r k l e =
+built-words o text w chair r k l e =
     let size : TABLE + 2 * r - TABLE ≡ length (tableOf o text chair) = omega (arith, table-length o text chair k) in
     ap (λ (n : ℕ). take n (drop TABLE w)) size ∙ l .table
 

@@ -1,0 +1,4 @@
+pub mod Copies
+pub mod Areas
+pub mod Orders
+pub mod Rules
