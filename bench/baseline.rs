@@ -4,6 +4,9 @@ pub const LONGEST: usize = 2048;
 pub const CLOSINGS: usize = 4096;
 pub const STACK: usize = 6144;
 pub const LINKS: usize = 8192;
+pub const LENGTHS: usize = 2048;
+pub const PLACES: usize = 4352;
+pub const ENTRIES: usize = 6656;
 pub const TABLE: usize = 11520;
 const TABLE_END: usize = 16128;
 pub const WORK: usize = 16384;
@@ -34,35 +37,68 @@ pub fn part(s: &[u32], from: usize, to: usize) -> &[u32] {
     unsafe { s.get_unchecked(from..to) }
 }
 
-pub fn smaller(x: &[u32], y: &[u32]) -> bool {
-    let (m, n) = (x.len(), y.len());
-    let short = if m < n { m } else { n };
-    let pairs = short / 2;
+/// Whether two slices of the same length hold the same words.
+fn equal(x: &[u32], y: &[u32]) -> bool {
+    let mut alike = true;
     let mut i = 0;
-    while i < pairs {
-        let (a, b) = (at(x, 2 * i), at(y, 2 * i));
-        if a != b {
-            return a < b;
-        }
-        let (c, d) = (at(x, 2 * i + 1), at(y, 2 * i + 1));
-        if c != d {
-            return c < d;
+    while i < x.len() {
+        alike = alike & (at(x, i) == at(y, i));
+        i += 1;
+    }
+    alike
+}
+
+/// How many of the first blocks of eight symbols are passed: all of them, or those before the first that is not alike.
+fn alike(x: &[u32], y: &[u32], blocks: usize) -> usize {
+    let mut i = 0;
+    while i < blocks {
+        let a = 8 * i;
+        let b = a + 8;
+        if !equal(part(x, a, b), part(y, a, b)) {
+            return i;
         }
         i += 1;
     }
-    if 2 * i < short {
-        let (e, f) = (at(x, 2 * i), at(y, 2 * i));
-        if e != f {
-            return e < f;
+    i
+}
+
+fn smaller_from(x: &[u32], y: &[u32], from: usize, short: usize) -> bool {
+    let mut i = from;
+    while i < short {
+        let (a, b) = (at(x, i), at(y, i));
+        if a != b {
+            return a < b;
         }
+        i += 1;
     }
-    m < n
+    x.len() < y.len()
+}
+
+fn smaller(x: &[u32], y: &[u32]) -> bool {
+    let (m, n) = (x.len(), y.len());
+    let short = if m < n { m } else { n };
+    if short < 16 {
+        return smaller_from(x, y, 0, short);
+    }
+    let i = 8 * alike(x, y, short / 8);
+    smaller_from(x, y, i, short)
 }
 
 pub fn before(s: &[u32], i: usize, j: usize, k: usize) -> bool {
     let (a, b) = (at(s, i), at(s, j));
     if a != b {
         return a < b;
+    }
+    rest_before(s, i, j, k)
+}
+
+#[inline(never)]
+pub fn rest_before(s: &[u32], i: usize, j: usize, k: usize) -> bool {
+    if i + 1 == j {
+        return 1 < k;
+    }
+    if k == 1 {
+        return false;
     }
     smaller(part(s, i + 1, j), part(s, j + 1, j + k))
 }

@@ -1,6 +1,6 @@
 //! One call of a service under callgrind: `bench SIDE SERVICE FAMILY SAMPLES [PATTERN]`. SIDE is `library` or `rust`; SERVICE is `build`,
 //! `check`, `read`, `copied` (reading, beside a Rust that copies the text), `extract` (the whole text), `count`, `locate`, `cuts` (the live cuts of
-//! the pattern), or `doubling`: the check of a table of SAMPLES rules that double. The pattern is the PATTERN samples in the middle of the text. It
+//! the pattern), or `doubling`: the check of a table of SAMPLES rules that double. FAMILY 100 + m is a block of m random bytes, repeated. The pattern is the PATTERN samples in the middle of the text. It
 //! prints the answer and a checksum of each lent slice afterwards, which `bench/run` compares between the sides. The lent slices hold other
 //! values before the call.
 
@@ -96,7 +96,7 @@ fn main() {
     let measured = if args[1] == "library" { measured_library } else { measured_rust };
     let answer = measured(&given, &mut lent);
     let (work, words, bytes) = (checksum(&lent.work), checksum(&lent.words), checksum(&lent.bytes));
-    println!("{} {} {answer:?} {work} {words} {bytes}", given.service, texts::FAMILIES[family]);
+    println!("{} {} {answer:?} {work} {words} {bytes}", given.service, texts::name(family));
 }
 
 fn table_of(text: &[u8]) -> Vec<u32> {

@@ -1,11 +1,9 @@
-//! The library's search in Rust: live cuts of a pattern, lengths and places of rules, counting, listing.
+//! The library's search in Rust: live cuts of a pattern, counting, listing.
 
 use crate::baseline::*;
 use crate::tables::{value, with_loaded};
 
-// The areas of the work slice during a search; ranks and table stay where they are.
-const LENGTHS: usize = 2048;
-const PLACES: usize = 4352;
+// The areas of the work slice during a search; what is loaded stays where it is.
 const FOUND: usize = 6656;
 const FLAGS: usize = 8960;
 const FLAGS_END: usize = 11008;
@@ -108,29 +106,6 @@ fn halves(work: &[u32], r: usize) -> Option<(usize, usize)> {
     Some((value(x) as usize, value(y) as usize))
 }
 
-/// The length of each rule's string, and a place of the marked text at which it stands.
-fn place_rules(work: &mut [u32], rules: usize) {
-    let mut r = 0;
-    while r < rules {
-        let n = match halves(work, r) {
-            None => 1,
-            Some((u, v)) => at(work, LENGTHS + u) + at(work, LENGTHS + v),
-        };
-        put(work, LENGTHS + r, n);
-        r += 1;
-    }
-    put(work, PLACES + (rules - 1), 0);
-    while 0 < r {
-        r -= 1;
-        if let Some((u, v)) = halves(work, r) {
-            let start = at(work, PLACES + r);
-            let behind = start + at(work, LENGTHS + u);
-            put(work, PLACES + u, start);
-            put(work, PLACES + v, behind);
-        }
-    }
-}
-
 /// Whether ranks are those of the pattern.
 fn matches(pattern: &[u8], ranks: &[u32]) -> bool {
     let mut i = 0;
@@ -196,7 +171,6 @@ fn count_rules(pattern: &[u8], work: &mut [u32], rules: usize) {
 
 /// Counts the occurrences of a pattern in the text that is loaded.
 fn count_loaded(pattern: &[u8], work: &mut [u32], rules: usize) -> usize {
-    place_rules(work, rules);
     flag_cuts(pattern, unsafe { work.get_unchecked_mut(FLAGS..FLAGS_END) });
     count_rules(pattern, work, rules);
     word(work, FOUND, rules - 1) / 4096

@@ -40,28 +40,6 @@ fn bad_word(table: &[u32]) -> usize {
     table.len()
 }
 
-/// The ranks of the last rule's string at the front. Answers how many there are, 0 if more than 2,048.
-fn expand(table: &[u32], work: &mut [u32]) -> usize {
-    let (mut r, mut n, mut d) = (table.len() / 2 - 1, 0, 0);
-    while n + d < 2048 {
-        let (x, y) = (at(table, 2 * r), at(table, 2 * r + 1));
-        if x < 1 << 30 {
-            put(work, n, x);
-            n += 1;
-            if d == 0 {
-                return n;
-            }
-            d -= 1;
-            r = at(work, STACK + d) as usize;
-        } else {
-            put(work, STACK + d, value(y));
-            d += 1;
-            r = value(x) as usize;
-        }
-    }
-    0
-}
-
 /// Whether of the n ranks at the front the first alone is the mark.
 fn is_marked(work: &[u32], n: usize) -> bool {
     at(work, 0) == 0 && !part(work, 1, n).contains(&0)
@@ -71,13 +49,176 @@ fn chair_of(table: &[u32]) -> u16 {
     value(at(table, 1)) as u16
 }
 
-fn load(table: &[u32], work: &mut [u32]) -> bool {
-    let n = expand(table, work);
-    if n == 0 || !is_marked(work, n) {
+/// Whether no two rules have the same words and rule 0 alone is the mark, by a dictionary at the front.
+fn is_distinct(table: &[u32], work: &mut [u32]) -> bool {
+    if at(table, 0) != 0 {
         return false;
     }
-    let m = build_table(work, n, chair_of(table));
-    part(work, TABLE, TABLE + m) == table
+    clear(work, 0, 1024);
+    let rules = table.len() / 2;
+    let mut r = 0;
+    while r < rules {
+        let (x, y) = (at(table, 2 * r), at(table, 2 * r + 1));
+        if !is_new(table, work, r, x, y) {
+            return false;
+        }
+        let b = bucket(x, y);
+        let old = at(work, b);
+        put(work, 1024 + r, old);
+        put(work, b, r as u32 + 1);
+        r += 1;
+    }
+    true
+}
+
+fn is_new(table: &[u32], work: &[u32], r: usize, x: u32, y: u32) -> bool {
+    if x == 0 {
+        return r == 0;
+    }
+    if x as usize + 1 == (1 << 30) + r || y as usize + 1 == (2 << 30) + r {
+        return true;
+    }
+    find(table, work, r, x, y) == r
+}
+
+/// The length of each rule's string; none is above 2,048.
+fn measure(table: &[u32], work: &mut [u32]) -> bool {
+    let rules = table.len() / 2;
+    let mut r = 0;
+    while r < rules {
+        let n = length_of(table, work, r);
+        if 2048 < n {
+            return false;
+        }
+        put(work, LENGTHS + r, n);
+        r += 1;
+    }
+    true
+}
+
+fn length_of(table: &[u32], work: &[u32], r: usize) -> u32 {
+    let (x, y) = (at(table, 2 * r), at(table, 2 * r + 1));
+    if x < 1 << 30 {
+        return 1;
+    }
+    at(work, LENGTHS + value(x) as usize) + at(work, LENGTHS + value(y) as usize)
+}
+
+/// The entry and the place of each rule, from the root down: whether the root meets all rules in their order.
+fn enter_all(table: &[u32], work: &mut [u32]) -> bool {
+    let mut r = table.len() / 2;
+    enter(work, r - 1, 0, 0);
+    while 0 < r {
+        r -= 1;
+        if !enter_halves(table, work, r) {
+            return false;
+        }
+    }
+    true
+}
+
+fn enter_halves(table: &[u32], work: &mut [u32], r: usize) -> bool {
+    let (x, y) = (at(table, 2 * r), at(table, 2 * r + 1));
+    let e = at(work, ENTRIES + r) as usize;
+    if x < 1 << 30 {
+        return e == r;
+    }
+    let (u, v) = (value(x) as usize, value(y) as usize);
+    let start = at(work, PLACES + r);
+    let behind = start + at(work, LENGTHS + u);
+    let d = enter(work, u, e, start);
+    enter(work, v, d, behind) == r
+}
+
+fn enter(work: &mut [u32], q: usize, e: usize, place: u32) -> usize {
+    if q < e {
+        return e;
+    }
+    put(work, ENTRIES + q, e as u32);
+    put(work, PLACES + q, place);
+    q + 1
+}
+
+/// Each rule written at its place: whether the halves of each are in order.
+fn fill_all(table: &[u32], work: &mut [u32]) -> bool {
+    let rules = table.len() / 2;
+    let mut r = 0;
+    while r < rules {
+        if !fill_rule(table, work, r) {
+            return false;
+        }
+        r += 1;
+    }
+    true
+}
+
+fn fill_rule(table: &[u32], work: &mut [u32], r: usize) -> bool {
+    let (x, y) = (at(table, 2 * r), at(table, 2 * r + 1));
+    let start = at(work, PLACES + r) as usize;
+    if x < 1 << 30 {
+        put(work, start, x);
+        return true;
+    }
+    let (u, v) = (value(x) as usize, value(y) as usize);
+    let behind = start + at(work, LENGTHS + u) as usize;
+    write_rule(work, u, start);
+    write_rule(work, v, behind);
+    in_order(table, work, u, v, start, behind)
+}
+
+fn write_rule(work: &mut [u32], q: usize, to: usize) {
+    let from = at(work, PLACES + q) as usize;
+    if from == to {
+        return;
+    }
+    let n = at(work, LENGTHS + q) as usize;
+    let first = at(work, from);
+    put(work, to, first);
+    if n == 1 {
+        return;
+    }
+    copy_within(work, from + 1, to + 1, n - 1);
+}
+
+fn copy_within(work: &mut [u32], from: usize, to: usize, n: usize) {
+    let mut i = 0;
+    while i < n {
+        let x = at(work, from + i);
+        put(work, to + i, x);
+        i += 1;
+    }
+}
+
+fn in_order(table: &[u32], work: &[u32], left: usize, right: usize, start: usize, behind: usize) -> bool {
+    let n = at(work, LENGTHS + right) as usize;
+    if !is_smaller(work, start, behind, n) {
+        return false;
+    }
+    let (x, y) = (at(table, 2 * left), at(table, 2 * left + 1));
+    if x < 1 << 30 || value(y) as usize == right {
+        return true;
+    }
+    let middle = start + at(work, LENGTHS + value(x) as usize) as usize;
+    !is_smaller(work, middle, behind, n)
+}
+
+fn is_smaller(work: &[u32], i: usize, j: usize, n: usize) -> bool {
+    let (a, b) = (at(work, i), at(work, j));
+    if a != b {
+        return a < b;
+    }
+    rest_before(part(work, 0, LENGTHS), i, j, n)
+}
+
+fn load(table: &[u32], work: &mut [u32]) -> bool {
+    if !is_distinct(table, work) || !measure(table, work) || !enter_all(table, work) || !fill_all(table, work) {
+        return false;
+    }
+    if !is_marked(work, text_length(table, work) + 1) {
+        return false;
+    }
+    unsafe { work.get_unchecked_mut(TABLE..TABLE + table.len()) }.copy_from_slice(table);
+    true
 }
 
 /// Checks and loads a table; what `deliver` answers then.
@@ -105,8 +246,8 @@ pub fn check(table: &[u32], work: &mut [u32]) -> Answer {
 }
 
 /// The number of samples of the text that is loaded.
-fn text_length(work: &[u32]) -> usize {
-    at(work, LONGEST) as usize - 1
+fn text_length(table: &[u32], work: &[u32]) -> usize {
+    at(work, LENGTHS + (table.len() / 2 - 1)) as usize - 1
 }
 
 /// The samples of rule r at the front: its left half, and in the rest of the slice its right half. Answers how many there are.
@@ -127,7 +268,7 @@ fn spell(rules: &[u32], r: usize, result: &mut [u8]) -> usize {
 /// The text and the chair of a table; `write` writes the text that is loaded.
 fn text_of(table: &[u32], work: &mut [u32], result: &mut [u8], write: impl FnOnce(&[u32], usize, &mut [u8])) -> Answer {
     with_loaded(table, work, |work| {
-        let n = text_length(work);
+        let n = text_length(table, work);
         if result.len() < n {
             return refused(9, n);
         }
@@ -154,7 +295,7 @@ pub fn copied(table: &[u32], work: &mut [u32], result: &mut [u8]) -> Answer {
 #[inline(never)]
 pub fn extract(table: &[u32], start: usize, count: usize, work: &mut [u32], result: &mut [u8]) -> Answer {
     with_loaded(table, work, |work| {
-        let n = text_length(work);
+        let n = text_length(table, work);
         if n < start || n - start < count {
             return refused(8, 0);
         }

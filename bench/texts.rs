@@ -1,4 +1,4 @@
-//! Eight families of texts, one that is slow to list the live cuts of, and drives of a switch joystick.
+//! Eight families of texts, one that is slow to list the live cuts of, drives of a switch joystick, and repeated blocks of any length.
 
 /// A small generator of numbers, the same in every run.
 struct Numbers(u64);
@@ -24,6 +24,9 @@ pub const FAMILIES: [&str; 10] = [
     "falling pairs",
     "nine headings",
 ];
+
+/// A family BLOCKS + m has a block of m random bytes, repeated.
+const BLOCKS: usize = 100;
 
 fn repeated(unit: &[u8], n: usize) -> Vec<u8> {
     unit.iter().cycle().take(n).copied().collect()
@@ -96,8 +99,14 @@ pub fn text(family: usize, n: usize) -> Vec<u8> {
         6 => repeated(&run(31), n),
         7 => fibonacci(n),
         8 => falling(n),
-        _ => headings(n, &mut numbers),
+        9 => headings(n, &mut numbers),
+        _ => repeated(&(BLOCKS..family).map(|_| numbers.next(256) as u8).collect::<Vec<u8>>(), n),
     }
+}
+
+/// The name of a family.
+pub fn name(family: usize) -> &'static str {
+    FAMILIES.get(family).unwrap_or(&"a repeated block")
 }
 
 /// The m samples in the middle of a text.

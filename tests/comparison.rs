@@ -17,8 +17,10 @@ use tally::Tally;
 
 fn main() {
     let long = std::thread::spawn(|| Comparison::new(0x9E3779B97F4A7C15).long_texts());
+    let misruled = std::thread::spawn(|| Comparison::new(0xA0761D6478BD642F).misruled_tables(100_000));
     let mut tally = Comparison::new(0xD1B54A32D192ED03).short_texts();
     tally.add_all(&long.join().unwrap());
+    tally.add_all(&misruled.join().unwrap());
     println!("comparison: {} calls agree with the naive implementation", tally.total());
     tally.print();
 }
@@ -58,6 +60,21 @@ impl Comparison {
             let n = self.generator.one_of(&[2047, 2047, any, any]);
             let text = self.generator.text(n);
             self.text(&text, 6, 8);
+        }
+        self.tally
+    }
+
+    /// So many tables whose rules are changed, checked.
+    fn misruled_tables(mut self, tables: usize) -> Tally {
+        let lent = Slices { work: self.generator.words(16384), ..Slices::default() };
+        for _ in 0..tables / 50 {
+            let n = self.generator.one_of(&[0, 1, 2, 3, 5, 8, 12, 20, 40, 200]);
+            let text = self.generator.text(n);
+            let table = self.table_of(&text, 40);
+            for _ in 0..50 {
+                let table = self.generator.misruled(&table);
+                self.compared(&Call::Check { table }, &lent);
+            }
         }
         self.tally
     }

@@ -41,6 +41,33 @@ impl Generator {
         other
     }
 
+    /// Another table, made from one that is accepted by up to three changes of its rules: a half, a symbol or both halves exchanged, neighbours exchanged, a rule
+    /// put in that nothing uses or that stands twice. Most have no bad word.
+    pub fn misruled(&mut self, table: &[u32]) -> Vec<u32> {
+        let mut other = table.to_vec();
+        for _ in 0..1 + self.below(3) {
+            let r = self.below(other.len() / 2);
+            let pair = other[2 * r] / KIND == 1;
+            match self.below(6) {
+                0 | 1 if pair => {
+                    let (i, half) = (2 * r + self.below(2), self.below(r) as u32);
+                    other[i] = other[i] / KIND * KIND | half;
+                }
+                2 => self.exchange_halves(&mut other),
+                3 => self.reorder_rules(&mut other),
+                4 => {
+                    let any = self.rule(r);
+                    let again = [other[2 * r], other[2 * r + 1]];
+                    let rule = self.one_of(&[any, again]);
+                    put_in(&mut other, r + 1, rule);
+                }
+                _ if !pair && 0 < r => other[2 * r] = self.one_of(&[0, 1, 98, 99, 100, 256]),
+                _ => {}
+            }
+        }
+        other
+    }
+
     /// One word with a bit, the kind or the number changed, or another word for it.
     fn damage_word(&mut self, table: &mut [u32]) {
         let i = self.below(table.len());
@@ -107,6 +134,16 @@ impl Generator {
         }
         table
     }
+}
+
+/// Puts a rule in as rule r; those from there on are renumbered.
+fn put_in(table: &mut Vec<u32>, r: usize, rule: [u32; 2]) {
+    for word in table.iter_mut() {
+        if (*word / KIND == 1 || *word / KIND == 2) && r <= (*word % KIND) as usize {
+            *word += 1;
+        }
+    }
+    table.splice(2 * r..2 * r, rule);
 }
 
 /// Every table of so many rules without a bad word, over the mark and two samples, with chair number 0.
