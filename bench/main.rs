@@ -96,7 +96,7 @@ fn main() {
     let measured = if args[1] == "library" { measured_library } else { measured_rust };
     let answer = measured(&given, &mut lent);
     let (work, words, bytes) = (checksum(&lent.work), checksum(&lent.words), checksum(&lent.bytes));
-    println!("{} {} {answer:?} {work} {words} {bytes}", given.service, texts::name(family));
+    println!("{} {} {answer:?} {work} {words} {bytes}", given.service, texts::FAMILIES.get(family).unwrap_or(&"a repeated block"));
 }
 
 fn table_of(text: &[u8]) -> Vec<u32> {

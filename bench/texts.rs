@@ -104,11 +104,6 @@ pub fn text(family: usize, n: usize) -> Vec<u8> {
     }
 }
 
-/// The name of a family.
-pub fn name(family: usize) -> &'static str {
-    FAMILIES.get(family).unwrap_or(&"a repeated block")
-}
-
 /// The m samples in the middle of a text.
 pub fn middle(text: &[u8], m: usize) -> Vec<u8> {
     let start = (text.len() - m) / 2;
