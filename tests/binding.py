@@ -6,6 +6,7 @@ import ctypes
 import doctest
 import inspect
 import io
+import mmap
 import os
 import pickle
 import shutil
@@ -17,9 +18,9 @@ import threading
 import unittest
 from array import array
 from concurrent.futures import ThreadPoolExecutor
-from contextlib import nullcontext
+from contextlib import contextmanager, nullcontext
 from pathlib import Path
-from unittest.mock import patch
+from unittest.mock import ANY, patch
 
 ROOT = Path(__file__).resolve().parent.parent
 MODULE = ROOT / "bindings" / "python"
@@ -30,9 +31,19 @@ import sirbolta  # noqa: E402
 AGREED = {}
 
 
-def unaligned(words) -> memoryview:
-    """The same words as bytes that begin behind a multiple of four."""
-    return memoryview(b"?" + bytes(array("I", words)))[1:]
+class Told(bytes):
+    """Bytes that say of themselves what is not so."""
+
+    def __len__(self):
+        return 8
+
+    def __bytes__(self):
+        return b"told"
+
+
+def unaligned(words, offset=1) -> memoryview:
+    """The same words as bytes that begin so far behind a multiple of four."""
+    return memoryview(b"?" * offset + bytes(array("I", words)))[offset:]
 
 
 def apart(words) -> memoryview:
@@ -44,12 +55,29 @@ KINDS = {
     "list": list,
     "Table": sirbolta.Table,
     "bytes": lambda words: bytes(array("I", words)),
+    "subclass of bytes": lambda words: Told(array("I", words)),
     "bytearray": lambda words: bytearray(array("I", words)),
     "array": lambda words: array("I", words),
     "ctypes": lambda words: (ctypes.c_uint32 * len(words))(*words),
     "unaligned": unaligned,
     "apart": apart,
 }
+
+
+@contextmanager
+def lent_stacks():
+    """New threads are lent a stack, however deep their own is. What lends it is watched."""
+    native = sirbolta._native
+    with patch.object(native, "STACK", 1 << 40), patch.object(native, "on_a_lent_stack", wraps=native.on_a_lent_stack) as lent:
+        yield lent
+
+
+def run(code: str) -> tuple[str, str, int]:
+    """What a program prints that begins with a long drive's table, what it says on standard error, and how it ends."""
+    start = "import sirbolta, sys, threading\ntable = sirbolta.build(b'a' * 2047, 40)\n"
+    environment = os.environ | {"PYTHONPATH": str(MODULE)}
+    ran = subprocess.run([sys.executable, "-B", "-c", start + code], env=environment, capture_output=True, text=True, timeout=20)
+    return ran.stdout, ran.stderr, ran.returncode
 
 
 def entries(value: str, digits: int) -> list[int]:
@@ -110,6 +138,17 @@ class Vectors(unittest.TestCase):
                     self.agrees(case, want, KINDS[name])
             AGREED[case["call"]] = AGREED.get(case["call"], 0) + 1
         self.assertEqual(sorted(AGREED), ["build", "check", "count", "cuts", "list", "part", "read"])
+
+    def test_reading_and_locating_on_a_lent_stack(self):
+        def served():
+            for case in cases(FILE):
+                want = dict(zip(*[iter(case["want"].split())] * 2))
+                if case["call"] in ("read", "list") and want["no"] not in "49":
+                    self.agrees(case, want, list)
+
+        with lent_stacks() as lent, ThreadPoolExecutor(1) as pool:
+            pool.submit(served).result()
+        self.assertGreater(lent.call_count, 50)
 
     def agrees(self, case, want, kind):
         if want["no"] == "0":
@@ -263,6 +302,8 @@ class Module(unittest.TestCase):
         self.assertEqual(sirbolta.build(memoryview(b"xabab")[1:], 40), self.table)
         self.assertEqual(sirbolta.build(memoryview(b"a?b?a?b?")[::2], 40), self.table)
         self.assertEqual(sirbolta.locate(self.table, array("b", b"ab")), [0, 2])
+        self.assertEqual(sirbolta.build(Told(b"abab"), 40), self.table)
+        self.assertEqual((sirbolta.count(self.table, Told(b"ab")), sirbolta.live_cuts(Told(b"aaba"))), (2, [1, 3]))
 
     def test_largest(self):
         text = bytes(i // 8 for i in range(2047))
@@ -296,6 +337,11 @@ class Module(unittest.TestCase):
             shutil.copy(library, Path(alone) / "sirbolta" / "libsirbolta.so")
             self.assertEqual(imported(alone), "")
 
+    def test_a_package_in_a_folder_of_the_root(self):
+        unnamed = {name: value for name, value in os.environ.items() if name != "SIRBOLTA_LIBRARY"}
+        with patch.object(sirbolta._native, "__file__", "/sirbolta-is-not-here/_native.py"), patch.dict(os.environ, unnamed, clear=True):
+            self.assertRaisesRegex(ImportError, "^no libsirbolta.so", sirbolta._native.found)
+
 
 class Tables(unittest.TestCase):
     WORDS = [0, 0xC0000028, 0x62, 0xC0000000, 0x63, 0xC0000000, 0x40000001, 0x80000002, 0x40000000, 0x80000003, 0x40000004, 0x80000003]
@@ -320,7 +366,7 @@ class Tables(unittest.TestCase):
     def test_equal_if_their_words_are(self):
         same, other = sirbolta.Table(bytearray(self.BYTES)), sirbolta.build(b"abab", 41)
         self.assertTrue(same == self.table and hash(same) == hash(self.table) and not same != self.table)
-        self.assertTrue(other != self.table and self.table != self.BYTES)
+        self.assertTrue(other != self.table and self.table != self.BYTES and self.table == ANY)
         self.assertEqual({self.table: 1, other: 2, same: 3}, {same: 3, other: 2})
 
     def test_does_not_change(self):
@@ -379,8 +425,9 @@ class Lending(unittest.TestCase):
         self.assertEqual(words, array("I", self.table.words), "an input was written")
 
     def test_words_that_cannot_be_read_where_they_stand_are_copied(self):
-        for kind in unaligned, apart:
-            start, length, _ = self.handed(kind(self.table.words))
+        words = self.table.words
+        for table in [unaligned(words, 1), unaligned(words, 2), unaligned(words, 3), apart(words)]:
+            start, length, _ = self.handed(table)
             self.assertEqual((start, length), (bytes(self.table), 12))
 
     def test_a_buffer_is_given_back(self):
@@ -388,10 +435,30 @@ class Lending(unittest.TestCase):
         self.assertEqual(sirbolta.count(words, b"ab"), 2)
         words += b"longer"
 
+    def test_a_buffer_is_given_back_though_the_error_is_kept(self):
+        for service, *arguments in [("check",), ("read",), ("extract", 0, 1), ("count", b"ab"), ("locate", b"ab")]:
+            for content in [b"\0" * 4, b"\0" * 7]:  # refused, and no whole words
+                self.given_back(getattr(sirbolta, service), bytearray(content), *arguments)
+        words = bytes(self.table)
+        self.given_back(sirbolta.read, mmap.mmap(-1, 4096))
+        self.given_back(sirbolta.count, bytearray(words), "ab")
+        self.given_back(sirbolta.extract, bytearray(words), 5, 0)
+        self.given_back(sirbolta.check, array("i", [0]))
+        self.given_back(sirbolta.Table, bytearray(7))
+        self.given_back(sirbolta.build, array("I", [0]), 40)
+
+    def given_back(self, service, buffer, *arguments):
+        try:
+            service(buffer, *arguments)
+        except (sirbolta.Refusal, TypeError, ValueError) as error:
+            kept = error
+            buffer.close() if isinstance(buffer, mmap.mmap) else buffer.append(0)
+        self.assertIsNotNone(kept.__traceback__)
+
     def test_one_work_slice_a_thread(self):
         works = [self.handed(self.table)[2] for _ in range(2)]
         with ThreadPoolExecutor(1) as pool:
-            works += [pool.submit(lambda: sirbolta._this_thread.work).result() for _ in range(2)]
+            works += [pool.submit(sirbolta._work).result() for _ in range(2)]
         self.assertTrue(works[0] is works[1] and works[2] is works[3] and works[0] is not works[2])
 
 
@@ -407,25 +474,98 @@ class Stacks(unittest.TestCase):
             self.assertEqual(table.locate(text[:1]), [i for i in range(2047) if text[i] == text[0]])
             self.assertRaises(sirbolta.PatternEmpty, table.locate, b"")
 
-    def on_a_thread(self, stack):
+    def on_threads(self, stack):
         usual = threading.stack_size(stack)
         try:
             with ThreadPoolExecutor(4) as pool:
                 list(pool.map(lambda _: self.served(), range(8)))
-                self.assertEqual(threading.stack_size(), stack)
         finally:
             threading.stack_size(usual)
 
     def test_128_kib(self):
-        self.on_a_thread(128 << 10)
+        self.on_threads(128 << 10)
 
     def test_1_mib(self):
-        self.on_a_thread(1 << 20)
+        self.on_threads(1 << 20)
 
-    def test_only_where_the_stack_is_small(self):
-        with patch.object(sirbolta, "_on_a_deep_stack") as other:
+    def test_32_kib(self):
+        code = "threading.stack_size(32 << 10)\nthreading.Thread(target=lambda: print(len(table.read()[0]), len(table.locate(b'a')))).start()"
+        self.assertEqual(run(code), ("2047 2047\n", "", 0))
+
+    def test_lent_only_where_the_stack_is_small(self):
+        native = sirbolta._native
+        with patch.object(native, "on_a_lent_stack", wraps=native.on_a_lent_stack) as lent:
             self.served()
-        other.assert_not_called()
+            lent.assert_not_called()
+            self.on_threads(1 << 20)
+            lent.assert_called()
+
+    def test_every_argument_reaches_the_lent_stack(self):
+        table = sirbolta.build(b"aaaa", 40)
+        with lent_stacks(), patch.object(sirbolta, "_SAMPLES", 2), ThreadPoolExecutor(1) as pool:
+            self.assertEqual(pool.submit(table.read).exception().args, (4,))
+            self.assertEqual(pool.submit(table.locate, b"aa").exception().args, (3,))
+
+    def test_nothing_of_threading_is_used(self):
+        with lent_stacks() as lent, ThreadPoolExecutor(1) as pool:
+            pool.submit(int).result()
+            with patch.object(threading, "stack_size") as size, patch.object(threading.Thread, "start") as start:
+                pool.submit(self.served).result()
+        self.assertEqual((lent.call_count, size.call_count, start.call_count), (9, 0, 0))
+
+    def test_arguments_are_gone_through_on_the_calling_thread(self):
+        table, seen = sirbolta.build(b"abab", 40), set()
+
+        class Words:
+            def __iter__(self):
+                seen.add(threading.get_ident())
+                return iter(table.words)
+
+        with lent_stacks(), ThreadPoolExecutor(1) as pool:
+            self.assertEqual(pool.submit(sirbolta.read, Words()).result(), (b"abab", 40))
+            self.assertEqual(seen, {pool.submit(threading.get_ident).result()})
+
+    def test_at_the_end_of_the_program(self):
+        late = "def late():\n    threading.main_thread().join()\n    print(len(table.read()[0]))\n"
+        code = "import atexit\nsirbolta._native.STACK = 1 << 40\natexit.register(lambda: print(table.locate(b'a')[-1]))\nthreading.Thread(target=late).start()"
+        self.assertEqual(run(late + code), ("2047\n2046\n", "", 0))
+
+    def test_in_a_child_that_is_forked_meanwhile(self):
+        code = """import os, signal
+sirbolta._native.STACK, done = 1 << 40, False
+def busy():
+    while not done:
+        table.read()
+threads = [threading.Thread(target=busy) for _ in range(2)]
+[thread.start() for thread in threads]
+for _ in range(20):
+    child = os.fork()
+    if not child:
+        signal.alarm(2)
+        os._exit(table.read()[1])
+    if os.waitstatus_to_exitcode(os.waitpid(child, 0)[1]) != 40:
+        print("a child hangs")
+        break
+done = True
+"""
+        self.assertEqual(run("import warnings\nwarnings.simplefilter('ignore')\n" + code), ("", "", 0))
+
+    def test_a_thread_that_is_numbered_otherwise(self):
+        code = "usual, threading.get_ident = threading.get_ident, lambda: 4242\nprint(sirbolta._native.stack() > 0)\nthreading.get_ident = usual"
+        self.assertEqual(run(code), ("True\n", "", 0))
+
+    def test_a_call_inside_the_first_call_of_a_thread(self):
+        table, native = sirbolta.build(b"abab", 40), sirbolta._native
+        stack, nested = native.stack, []
+
+        def meanwhile():
+            if not nested:
+                nested.append(None)
+                nested[0] = table.read()
+            return stack()
+
+        with patch.object(native, "stack", meanwhile), ThreadPoolExecutor(1) as pool:
+            self.assertEqual((pool.submit(table.read).result(), nested), ((b"abab", 40), [(b"abab", 40)]))
 
 
 class Examples(unittest.TestCase):

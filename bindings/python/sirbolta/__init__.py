@@ -9,17 +9,18 @@ A text is a drive: at most 2,047 samples of one byte. A pattern is 1 to 2,047 sa
 
 A table is a `Table`, which `build` answers, or any buffer with a table's words: single bytes, four a word and the lowest first, or unsigned words of 32
 bits. It is read where it stands; only where its words are not aligned to four bytes, or stand apart, it is copied. A sequence of whole numbers is taken
-too, and converted at each call. Nothing may write to a buffer while a call reads it.
+too, and converted at each call. Nothing may write to a buffer while a call reads it: the answer may then be wrong, or the process crash.
 
 Each service answers from its arguments alone, or raises the refusal whose check is met first, a subclass of `Refusal`. `WorkTooShort` and
 `ResultTooShort` are never met: this package lends slices that are long enough. Before the library is called, an argument of another type raises
 TypeError; a negative number, a word or chair number with too many bits, or bytes that are no whole number of words raise ValueError.
 
 Threads may call at the same time, and the interpreter's lock is free while the library works. A thread has one work slice of 64 KiB for all its calls.
-`read` and `locate` take up to 240 KiB of stack: on a thread whose stack is smaller than 1 MiB they are run on another one, which is slower.
+`read` and `locate` take up to 240 KiB of stack. On a thread whose stack is smaller than 4 MiB they are lent one, which is slower; on any other thread so
+much must be left, which is not looked at: calls nested very deeply in Python can use it up.
 
-The library is `libsirbolta.so` beside this package, or in the repository's target/lib, or the file that the environment variable SIRBOLTA_LIBRARY
-names. One with another interface number is not loaded: ImportError.
+The library is the file that the environment variable SIRBOLTA_LIBRARY names, or else `libsirbolta.so` inside this package, or else the one in the
+repository's target/lib. One with another interface number, or without a function that is called here, is not loaded: ImportError.
 """
 
 from __future__ import annotations
@@ -31,7 +32,7 @@ from operator import index
 from typing import TYPE_CHECKING, NamedTuple, NoReturn, SupportsIndex, Union
 
 from ._native import INTERFACE, WORK as _WORK, Reply as _Reply, SearchReply as _SearchReply
-from ._native import library as _library, on_a_deep_stack as _on_a_deep_stack, this_thread as _this_thread
+from ._native import library as _library, recursing as _recursing, work as _work
 from .refusals import (
     BadWord, NotATable, PatternEmpty, PatternTooLong, RangePastEnd, Refusal, ResultTooShort, TableLength, TextTooLong, WorkTooShort, refusal as _refusal,
 )
@@ -74,8 +75,8 @@ class Table:
     _bytes: bytes
 
     def __new__(cls, words: Words) -> Table:
-        table = super().__new__(cls)
-        object.__setattr__(table, "_bytes", bytes(words) if isinstance(words, (Table, bytes)) else _view(words).tobytes())
+        table, packed = super().__new__(cls), _packed(words)
+        object.__setattr__(table, "_bytes", _view(words).tobytes() if packed is None else packed)
         _in_words(len(table._bytes))
         return table
 
@@ -108,7 +109,9 @@ class Table:
         return self._bytes
 
     def __eq__(self, other: object) -> bool:
-        return isinstance(other, Table) and self._bytes == other._bytes
+        if not isinstance(other, Table):
+            return NotImplemented
+        return self._bytes == other._bytes
 
     def __hash__(self) -> int:
         return hash(self._bytes)
@@ -138,7 +141,7 @@ def build(text: Samples, chair: int) -> Table:
     """
     samples = _samples(text)
     result = _TableWords()
-    reply = _library.sirbolta_build(samples, len(samples), _number(chair, "the chair number", 16), _this_thread.work, _WORK, result, _TABLE)
+    reply = _library.sirbolta_build(samples, len(samples), _number(chair, "the chair number", 16), _work(), _WORK, result, _TABLE)
     return Table(ctypes.string_at(result, 4 * _counted(reply)))
 
 
@@ -151,8 +154,8 @@ def check(table: Words) -> int:
     Traceback (most recent call last):
     sirbolta.refusals.BadWord: refused 6: word 2 of the table is bad
     """
-    words = _words(table)
-    return _counted(_library.sirbolta_check(words.start, words.length, _this_thread.work, _WORK))
+    with _words(table) as words:
+        return _counted(_library.sirbolta_check(words.start, words.length, _work(), _WORK))
 
 
 def read(table: Words) -> tuple[bytes, int]:
@@ -161,7 +164,10 @@ def read(table: Words) -> tuple[bytes, int]:
     >>> read(build(b"abab", chair=40))
     (b'abab', 40)
     """
-    return _read(table) if _this_thread.deep else _on_a_deep_stack(_read, table)
+    with _words(table) as words:
+        result = _Bytes()
+        reply = _recursing(_library.sirbolta_read, words.start, words.length, _work(), _WORK, result, _SAMPLES)
+        return ctypes.string_at(result, _counted(reply)), reply.chair
 
 
 def extract(table: Words, start: int, length: int) -> bytes:
@@ -170,11 +176,11 @@ def extract(table: Words, start: int, length: int) -> bytes:
     >>> extract(build(b"abab", chair=40), start=1, length=2)
     b'ba'
     """
-    words = _words(table)
-    start, length = min(_number(start, "start"), _LARGEST), min(_number(length, "length"), _LARGEST)
-    result = _Bytes()
-    reply = _library.sirbolta_extract(words.start, words.length, start, length, _this_thread.work, _WORK, result, _SAMPLES)
-    return ctypes.string_at(result, _counted(reply))
+    with _words(table) as words:
+        start, length = min(_number(start, "start"), _LARGEST), min(_number(length, "length"), _LARGEST)
+        result = _Bytes()
+        reply = _library.sirbolta_extract(words.start, words.length, start, length, _work(), _WORK, result, _SAMPLES)
+        return ctypes.string_at(result, _counted(reply))
 
 
 def count(table: Words, pattern: Samples) -> int:
@@ -183,8 +189,9 @@ def count(table: Words, pattern: Samples) -> int:
     >>> count(build(b"aaaa", chair=40), b"aa")
     3
     """
-    words, samples = _words(table), _samples(pattern)
-    return _counted(_library.sirbolta_count(words.start, words.length, samples, len(samples), _this_thread.work, _WORK))
+    with _words(table) as words:
+        samples = _samples(pattern)
+        return _counted(_library.sirbolta_count(words.start, words.length, samples, len(samples), _work(), _WORK))
 
 
 def locate(table: Words, pattern: Samples) -> list[int]:
@@ -193,7 +200,10 @@ def locate(table: Words, pattern: Samples) -> list[int]:
     >>> locate(build(b"aaaa", chair=40), b"aa")
     [0, 1, 2]
     """
-    return _locate(table, pattern) if _this_thread.deep else _on_a_deep_stack(_locate, table, pattern)
+    with _words(table) as words:
+        samples, result = _samples(pattern), _Positions()
+        reply = _recursing(_library.sirbolta_locate, words.start, words.length, samples, len(samples), _work(), _WORK, result, _SAMPLES)
+        return result[: _counted(reply)]
 
 
 def live_cuts(pattern: Samples) -> list[int]:
@@ -207,20 +217,6 @@ def live_cuts(pattern: Samples) -> list[int]:
     return result[: _counted(_library.sirbolta_live_cuts(samples, len(samples), result, _SAMPLES))]
 
 
-def _read(table: Words) -> tuple[bytes, int]:
-    words = _words(table)
-    result = _Bytes()
-    reply = _library.sirbolta_read(words.start, words.length, _this_thread.work, _WORK, result, _SAMPLES)
-    return ctypes.string_at(result, _counted(reply)), reply.chair
-
-
-def _locate(table: Words, pattern: Samples) -> list[int]:
-    words, samples = _words(table), _samples(pattern)
-    result = _Positions()
-    reply = _library.sirbolta_locate(words.start, words.length, samples, len(samples), _this_thread.work, _WORK, result, _SAMPLES)
-    return result[: _counted(reply)]
-
-
 def _counted(reply: _Reply | _SearchReply) -> int:
     """The count of a reply, or its refusal raised."""
     if reply.number:
@@ -229,34 +225,47 @@ def _counted(reply: _Reply | _SearchReply) -> int:
 
 
 def _samples(value: Samples) -> bytes:
-    if isinstance(value, bytes):
+    if type(value) is bytes:  # a subclass may say another length than it has
         return value
     try:
         view = memoryview(value)
     except TypeError:
         raise TypeError(f"samples are bytes, not {type(value).__name__}") from None
-    if view.itemsize != 1:
-        raise TypeError("samples are single bytes")
-    return view.tobytes()
+    with view:
+        if view.itemsize != 1:
+            raise TypeError("samples are single bytes")
+        return view.tobytes()
 
 
 class _Lent(NamedTuple):
-    """A table's words as the library takes them: bytes or an address, how many words there are, and what keeps them at that address."""
+    """A table's words as the library takes them: bytes or an address, and how many words; what keeps them there is given back at the end of a `with`."""
 
     start: bytes | int
     length: int
-    keeper: object = None
+    keeper: memoryview | None = None
+
+    def __enter__(self) -> _Lent:
+        return self
+
+    def __exit__(self, *_: object) -> None:
+        if self.keeper is not None:
+            self.keeper.release()
 
 
 def _words(table: Words) -> _Lent:
     """The words of a table, lent where they stand if the library can read them there."""
-    if not isinstance(table, (Table, bytes)):
+    packed = _packed(table)
+    if packed is None:
         view = _view(table)
         if view.c_contiguous and (address := _address(view)) % 4 == 0:
-            return _Lent(address, _in_words(view.nbytes), view)
-        table = view.tobytes()
-    packed = bytes(table)
+            return _Lent(address, view.nbytes // 4, view)
+        packed = view.tobytes()
     return _Lent(packed, _in_words(len(packed)))
+
+
+def _packed(table: Words) -> bytes | None:
+    """The words of a table that has them as bytes."""
+    return table._bytes if isinstance(table, Table) else table if type(table) is bytes else None
 
 
 def _in_words(length: int) -> int:
@@ -266,7 +275,7 @@ def _in_words(length: int) -> int:
     return length // 4
 
 
-def _view(table: Buffer | Iterable[int]) -> memoryview:
+def _view(table: Words) -> memoryview:
     """The words of a buffer, or those of a sequence of numbers. Text, what has no order and what can be gone through only once are no table."""
     try:
         view = memoryview(table)  # type: ignore[arg-type]
@@ -274,8 +283,13 @@ def _view(table: Buffer | Iterable[int]) -> memoryview:
         if isinstance(table, (str, Mapping, Set, Iterator)) or not isinstance(table, Iterable):
             raise TypeError(f"a table is a Table, a buffer or a sequence of 32-bit words, not {type(table).__name__}") from None
         return memoryview(array("I", [_number(word, "a word of a table", 32) for word in table]))
-    if view.itemsize != 1 and not (view.itemsize == 4 and view.format.lstrip("@=<") in ("I", "L")):
-        raise TypeError(f"a table's buffer has single bytes or unsigned words of 32 bits, not the format {view.format}")
+    try:
+        if view.itemsize != 1 and not (view.itemsize == 4 and view.format.lstrip("@=<") in ("I", "L")):
+            raise TypeError(f"a table's buffer has single bytes or unsigned words of 32 bits, not the format {view.format}")
+        _in_words(view.nbytes)
+    except Exception:
+        view.release()
+        raise
     return view
 
 
