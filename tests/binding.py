@@ -64,14 +64,6 @@ KINDS = {
 }
 
 
-@contextmanager
-def lent_stacks():
-    """New threads are lent a stack, however deep their own is. What lends it is watched."""
-    native = sirbolta._native
-    with patch.object(native, "STACK", 1 << 40), patch.object(native, "on_a_lent_stack", wraps=native.on_a_lent_stack) as lent:
-        yield lent
-
-
 def run(code: str) -> tuple[str, str, int]:
     """What a program prints that begins with a long drive's table, what it says on standard error, and how it ends."""
     start = "import sirbolta, sys, threading\ntable = sirbolta.build(b'a' * 2047, 40)\n"
@@ -138,17 +130,6 @@ class Vectors(unittest.TestCase):
                     self.agrees(case, want, KINDS[name])
             AGREED[case["call"]] = AGREED.get(case["call"], 0) + 1
         self.assertEqual(sorted(AGREED), ["build", "check", "count", "cuts", "list", "part", "read"])
-
-    def test_reading_and_locating_on_a_lent_stack(self):
-        def served():
-            for case in cases(FILE):
-                want = dict(zip(*[iter(case["want"].split())] * 2))
-                if case["call"] in ("read", "list") and want["no"] not in "49":
-                    self.agrees(case, want, list)
-
-        with lent_stacks() as lent, ThreadPoolExecutor(1) as pool:
-            pool.submit(served).result()
-        self.assertGreater(lent.call_count, 50)
 
     def agrees(self, case, want, kind):
         if want["no"] == "0":
@@ -463,7 +444,7 @@ class Lending(unittest.TestCase):
 
 
 class Stacks(unittest.TestCase):
-    """`read` and `locate` on threads with less stack than they take."""
+    """`read` and `locate` on threads with a stack that is large enough, and on one that is not."""
 
     TEXTS = [b"a" * 2047, b"a" * 2046 + b"b", bytes(i // 8 for i in range(2047))]
 
@@ -474,81 +455,29 @@ class Stacks(unittest.TestCase):
             self.assertEqual(table.locate(text[:1]), [i for i in range(2047) if text[i] == text[0]])
             self.assertRaises(sirbolta.PatternEmpty, table.locate, b"")
 
-    def on_threads(self, stack):
+    def refused(self):
+        table = sirbolta.build(self.TEXTS[0], 40)
+        self.assertRaisesRegex(RuntimeError, "240 KiB of stack are needed, and this thread has 12[0-9] KiB in all", table.read)
+        self.assertRaisesRegex(RuntimeError, "240 KiB of stack are needed, and this thread has 12[0-9] KiB in all", table.locate, b"a")
+        self.assertEqual((table.check(), table.count(b"a"), table.extract(2046, 1)), (2049, 2047, b"a"))
+
+    def on_threads(self, stack, work):
         usual = threading.stack_size(stack)
         try:
             with ThreadPoolExecutor(4) as pool:
-                list(pool.map(lambda _: self.served(), range(8)))
+                list(pool.map(lambda _: work(), range(8)))
         finally:
             threading.stack_size(usual)
 
     def test_128_kib(self):
-        self.on_threads(128 << 10)
+        self.on_threads(128 << 10, self.refused)
 
-    def test_1_mib(self):
-        self.on_threads(1 << 20)
+    def test_512_kib(self):
+        self.on_threads(512 << 10, self.served)
 
     def test_32_kib(self):
-        code = "threading.stack_size(32 << 10)\nthreading.Thread(target=lambda: print(len(table.read()[0]), len(table.locate(b'a')))).start()"
-        self.assertEqual(run(code), ("2047 2047\n", "", 0))
-
-    def test_lent_only_where_the_stack_is_small(self):
-        native = sirbolta._native
-        with patch.object(native, "on_a_lent_stack", wraps=native.on_a_lent_stack) as lent:
-            self.served()
-            lent.assert_not_called()
-            self.on_threads(1 << 20)
-            lent.assert_called()
-
-    def test_every_argument_reaches_the_lent_stack(self):
-        table = sirbolta.build(b"aaaa", 40)
-        with lent_stacks(), patch.object(sirbolta, "_SAMPLES", 2), ThreadPoolExecutor(1) as pool:
-            self.assertEqual(pool.submit(table.read).exception().args, (4,))
-            self.assertEqual(pool.submit(table.locate, b"aa").exception().args, (3,))
-
-    def test_nothing_of_threading_is_used(self):
-        with lent_stacks() as lent, ThreadPoolExecutor(1) as pool:
-            pool.submit(int).result()
-            with patch.object(threading, "stack_size") as size, patch.object(threading.Thread, "start") as start:
-                pool.submit(self.served).result()
-        self.assertEqual((lent.call_count, size.call_count, start.call_count), (9, 0, 0))
-
-    def test_arguments_are_gone_through_on_the_calling_thread(self):
-        table, seen = sirbolta.build(b"abab", 40), set()
-
-        class Words:
-            def __iter__(self):
-                seen.add(threading.get_ident())
-                return iter(table.words)
-
-        with lent_stacks(), ThreadPoolExecutor(1) as pool:
-            self.assertEqual(pool.submit(sirbolta.read, Words()).result(), (b"abab", 40))
-            self.assertEqual(seen, {pool.submit(threading.get_ident).result()})
-
-    def test_at_the_end_of_the_program(self):
-        late = "def late():\n    threading.main_thread().join()\n    print(len(table.read()[0]))\n"
-        code = "import atexit\nsirbolta._native.STACK = 1 << 40\natexit.register(lambda: print(table.locate(b'a')[-1]))\nthreading.Thread(target=late).start()"
-        self.assertEqual(run(late + code), ("2047\n2046\n", "", 0))
-
-    def test_in_a_child_that_is_forked_meanwhile(self):
-        code = """import os, signal
-sirbolta._native.STACK, done = 1 << 40, False
-def busy():
-    while not done:
-        table.read()
-threads = [threading.Thread(target=busy) for _ in range(2)]
-[thread.start() for thread in threads]
-for _ in range(20):
-    child = os.fork()
-    if not child:
-        signal.alarm(2)
-        os._exit(table.read()[1])
-    if os.waitstatus_to_exitcode(os.waitpid(child, 0)[1]) != 40:
-        print("a child hangs")
-        break
-done = True
-"""
-        self.assertEqual(run("import warnings\nwarnings.simplefilter('ignore')\n" + code), ("", "", 0))
+        code = "threading.stack_size(32 << 10)\nthreading.Thread(target=lambda: print(table.count(b'a'))).start()"
+        self.assertEqual(run(code), ("2047\n", "", 0))
 
     def test_a_thread_that_is_numbered_otherwise(self):
         code = "usual, threading.get_ident = threading.get_ident, lambda: 4242\nprint(sirbolta._native.stack() > 0)\nthreading.get_ident = usual"

@@ -16,8 +16,8 @@ Each service answers from its arguments alone, or raises the refusal whose check
 TypeError; a negative number, a word or chair number with too many bits, or bytes that are no whole number of words raise ValueError.
 
 Threads may call at the same time, and the interpreter's lock is free while the library works. A thread has one work slice of 64 KiB for all its calls.
-`read` and `locate` take up to 240 KiB of stack. On a thread whose stack is smaller than 4 MiB they are lent one, which is slower; on any other thread so
-much must be left, which is not looked at: calls nested very deeply in Python can use it up.
+`read` and `locate` take up to 240 KiB of stack. On a thread that was started with a stack below 512 KiB they raise RuntimeError and call nothing; on any
+other so much must be left, which is not looked at: calls nested very deeply in Python can use it up.
 
 The library is the file that the environment variable SIRBOLTA_LIBRARY names, or else `libsirbolta.so` inside this package, or else the one in the
 repository's target/lib. One with another interface number, or without a function that is called here, is not loaded: ImportError.

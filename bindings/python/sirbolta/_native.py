@@ -1,19 +1,17 @@
 """The library as include/sirbolta.h declares it, loaded if it has this package's interface number; and what a thread has for its calls: a work slice, and a
-stack that is deep enough, its own or a lent one."""
+stack that is large enough or not."""
 
 from __future__ import annotations
 
 import ctypes
 import os
 import threading
-from mmap import mmap
 from pathlib import Path
 from typing import Any
 
 INTERFACE = 1
 WORK = 16_384  # the words of a work slice
-STACK = 4 << 20  # bytes: a stack of this size is taken to have 240 KiB left, which reading back and locating need
-LENT = 512 << 10  # the bytes of a stack that is lent
+STACK = 512 << 10  # bytes: on a smaller stack reading back and locating, which take up to 240 KiB of it, are not called
 
 
 class Reply(ctypes.Structure):
@@ -84,10 +82,12 @@ def work() -> Any:
 
 
 def recursing(function: Any, *arguments: Any) -> Any:
-    """The reply of a function that takes up to 240 KiB of stack: on the running thread's own where that is deep, else on one that is lent."""
-    if not hasattr(this_thread, "deep"):
-        this_thread.deep = stack() >= STACK
-    return function(*arguments) if this_thread.deep else on_a_lent_stack(function, *arguments)
+    """The reply of a function that takes up to 240 KiB of stack, if the running thread's is not too small for that."""
+    if not hasattr(this_thread, "stack"):
+        this_thread.stack = stack()
+    if 0 < this_thread.stack < STACK:
+        raise RuntimeError(f"up to 240 KiB of stack are needed, and this thread has {this_thread.stack >> 10} KiB in all: start it with more (threading.stack_size)")
+    return function(*arguments)
 
 
 def stack() -> int:
@@ -98,27 +98,6 @@ def stack() -> int:
     system.pthread_attr_getstack(attributes, ctypes.byref(start), ctypes.byref(size))
     system.pthread_attr_destroy(attributes)
     return size.value
-
-
-class Context(ctypes.Structure):
-    """A ucontext_t of glibc on x86-64: what is to run next, and where its stack is; the rest is glibc's own."""
-
-    _fields_ = [
-        ("flags", ctypes.c_ulong), ("next", ctypes.c_void_p), ("start", ctypes.c_void_p), ("mode", ctypes.c_int), ("size", ctypes.c_size_t),
-        ("rest", ctypes.c_uint64 * 128),
-    ]
-
-
-def on_a_lent_stack(function: Any, *arguments: Any) -> Any:
-    """The reply of a function of the library that runs on a new stack: still on this thread, and with nothing of Python on that stack."""
-    reply, memory, here, there = function.restype(), mmap(-1, LENT), Context(), Context()
-    converted = [kind.from_param(argument) for kind, argument in zip(function.argtypes, arguments)]
-    system.getcontext(ctypes.byref(there))
-    there.next, there.start, there.size = ctypes.addressof(here), ctypes.addressof(ctypes.c_char.from_buffer(memory)), LENT
-    # on x86-64 a function that answers a struct of this size is handed, before its arguments, the address where to write it
-    system.makecontext(ctypes.byref(there), function, 1 + len(converted), ctypes.byref(reply), *converted)
-    system.swapcontext(ctypes.byref(here), ctypes.byref(there))
-    return reply
 
 
 system = ctypes.CDLL(None)
