@@ -14,14 +14,14 @@ use Rattle.lists.specs.Numbers.{split-lt}
 use Rattle.lyndon.specs.Ruled.{SymbolOf, PairOf}
 use Rattle.lyndon.specs.Accepted.{accepted-short}
 use Rattle.layout.specs.Layout.{LENGTHS, lengthIn}
-use Rattle.lengths.specs.Lengths.{Lent, Sized}
+use Rattle.lengths.specs.Lengths.{InShape, Sized}
 
 -- no length is known yet
-pub size-start : (t w : List ℕ) → Lent t w → Sized t 0 w
+pub size-start : (t w : List ℕ) → InShape t w → Sized t 0 w
 size-start t w l = record { lent = l; short = λ r h. absurd (omega arith); sizes = λ o r h. absurd (omega arith) }
 
 -- rules are few enough for the areas
-pub rules-few : {t w : List ℕ} → Lent t w → ruleCount t ≤ 2304
+pub rules-few : {t w : List ℕ} → InShape t w → ruleCount t ≤ 2304
 rules-few l = omega (arith, l .few, l .shaped .even)
 
 module _ {t w : List ℕ} {r : ℕ} (s : Sized t r w) where

@@ -10,11 +10,11 @@ ghost use Prim.Native.Nat.{_+_, _<_};
 ghost use lib.ListN.{length};
 ghost use Rattle.definitions.specs.declared.Order.{Order};
 ghost use Rattle.definitions.specs.Table.{ruleString, ruleCount, isTable};
-ghost use Rattle.lengths.specs.Lengths.{Lent, Sized};
+ghost use Rattle.lengths.specs.Lengths.{InShape, Sized};
 
 // Stores the length of each rule's string; or one is above 2,048, and the table is no drive's.
 pub fn measure(table: &[u32], work: &mut [u32]) -> bool
-    requires { ⌜ Lent (now table) (now work) ⌝ }
+    requires { ⌜ InShape (now table) (now work) ⌝ }
     ensures { λ b. ⌜ (b ≡ true → Sized (now (table .entry)) (ruleCount (now (table .entry))) (now (work .exit))) × (b ≡ false → (o : Order) → isTable o (now (table .entry)) ≡ false) ⌝ }
 {
     let rules = table.len() / 2;

@@ -24,7 +24,7 @@ use Rattle.lyndon.specs.Accepted.{accepted-mark, accepted-samples}
 use Rattle.lyndon.specs.Judging.{judged}
 use Rattle.dict.specs.Dictionary.{bucketOf, Dict}
 use Rattle.dict.specs.Links.{linked, dict-none, dict-more}
-use Rattle.lengths.specs.Lengths.{Lent}
+use Rattle.lengths.specs.Lengths.{InShape}
 use Rattle.lengths.proofs.Sizes.{rules-few}
 use Rattle.twins.specs.Twins.{Linked, Distinct}
 
@@ -89,7 +89,7 @@ module _ {t w : List ℕ} {r : ℕ} (k : Linked t r w) (h : r < ruleCount t) whe
 -- ---- the beginning and the end
 
 -- the 1,024 buckets are cleared
-pub linked-none : (t w l : List ℕ) → Lent t w → getD t 0 0 ≡ 0 → l ≡ replicate (length (take 1024 w)) 0 → Linked t 0 (l ++ drop 1024 w)
+pub linked-none : (t w l : List ℕ) → InShape t w → getD t 0 0 ≡ 0 → l ≡ replicate (length (take 1024 w)) 0 → Linked t 0 (l ++ drop 1024 w)
 unfolding every
 linked-none t w l k m e =
     let long = k .long in

@@ -8,16 +8,16 @@ use Rattle.definitions.specs.Words.{every}
 use Rattle.definitions.specs.Table.{ruleCount}
 use Rattle.lyndon.specs.Twins.{isNew}
 use Rattle.dict.specs.Dictionary.{Dict}
-use Rattle.lengths.specs.Lengths.{Lent}
+use Rattle.lengths.specs.Lengths.{InShape}
 
 -- the first n rules are new, and linked; rule 0 is the mark
 pub record Linked (t : List ℕ) (n : ℕ) (w : List ℕ) : Type 0 where
-  pub lent : Lent t w
+  pub lent : InShape t w
   pub mark : getD t 0 0 ≡ 0
   pub dict : Dict t w n
   pub new : every (isNew t) n ≡ true
 
 -- every rule is new
 pub record Distinct (t w : List ℕ) : Type 0 where
-  pub lent : Lent t w
+  pub lent : InShape t w
   pub new : every (isNew t) (ruleCount t) ≡ true

@@ -13,12 +13,12 @@ ghost use Prim.Native.Nat.{_+_, _<_};
 ghost use Rattle.definitions.specs.declared.Order.{Order};
 ghost use Rattle.definitions.specs.Table.{ruleCount, isTable};
 ghost use Rattle.lyndon.specs.Twins.{isNew};
-ghost use Rattle.lengths.specs.Lengths.{Lent};
+ghost use Rattle.lengths.specs.Lengths.{InShape};
 ghost use Rattle.twins.specs.Twins.{Distinct, Linked};
 
 // Whether the rules are distinct; if not, the table is no drive's.
 pub fn is_distinct(table: &[u32], work: &mut [u32]) -> bool
-    requires { ⌜ Lent (now table) (now work) ⌝ }
+    requires { ⌜ InShape (now table) (now work) ⌝ }
     ensures { λ b. ⌜ (b ≡ true → Distinct (now (table .entry)) (now (work .exit))) × (b ≡ false → (o : Order) → isTable o (now (table .entry)) ≡ false) ⌝ }
 {
     if table[0] != 0 {
