@@ -44,6 +44,16 @@ impl Generator {
     /// Another table, made from one that is accepted by up to three changes of its rules: a half, a symbol or both halves exchanged, neighbours exchanged, a rule
     /// put in that nothing uses or that stands twice. Most have no bad word.
     pub fn misruled(&mut self, table: &[u32]) -> Vec<u32> {
+        loop {
+            let other = self.changed_rules(table);
+            if other != table {
+                return other;
+            }
+        }
+    }
+
+    /// The same, but for changes that change nothing.
+    fn changed_rules(&mut self, table: &[u32]) -> Vec<u32> {
         let mut other = table.to_vec();
         for _ in 0..1 + self.below(3) {
             let r = self.below(other.len() / 2);

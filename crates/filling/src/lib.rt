@@ -20,7 +20,6 @@ ghost use Rattle.definitions.specs.Words.{lexlt};
 ghost use Rattle.definitions.specs.Table.{ruleCount, isTable};
 ghost use Rattle.lists.specs.Parts.{part};
 ghost use Rattle.layout.specs.Layout.{WORK, lengthIn, placeIn};
-ghost use Rattle.lyndon.specs.Ruled.{PairOf};
 ghost use Rattle.lyndon.specs.Standard.{ordered};
 ghost use Rattle.entries.specs.Entries.{Placed};
 ghost use Rattle.filling.specs.Filling.{copied, front, Copyable, Written, Filling};

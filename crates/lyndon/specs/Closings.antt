@@ -56,11 +56,6 @@ forest-sum (t ∷ f) =
     let it = closings-sum 0 t in
     simp (length-append, sum-append) (omega arith)
 
-closingsOf-length : (f : List Tree) → length (closingsOf f) ≡ length (spells f)
-unfolding closingsOf spells
-closingsOf-length [] = refl
-closingsOf-length (t ∷ f) = simp length-append (ap₂ {C = ℕ} (λ m n. m + n) (closings-length 0 t) (closingsOf-length f))
-
 -- with d on the stack, each symbol is pushed and has its joins: there are always two to join
 abbrev pub Enough : ℕ → List ℕ → Type 0
 Enough d [] = Unit {0}
