@@ -33,6 +33,6 @@ pub record Placed (t w : List ℕ) : Type 0 where
   pub met : meets (halves t) 0 (ruleCount t - 1) ≡ true
   pub places : (r : ℕ) → r < ruleCount t → StandsIn t w r
 
--- the root does not: so the table is no drive's
+-- the table is no drive's in any order, which is all that is kept where the root does not meet the rules so
 pub record Unmet (t : List ℕ) : Type 0 where
   pub foreign : (o : Order) → isTable o t ≡ false
