@@ -436,6 +436,25 @@ class Lending(unittest.TestCase):
             buffer.close() if isinstance(buffer, mmap.mmap) else buffer.append(0)
         self.assertIsNotNone(kept.__traceback__)
 
+    def test_count_each(self):
+        texts = [b"ab" * (number % 5) for number in range(1203)]  # more than two calls take
+        tables = [sirbolta.build(text, number) for number, text in enumerate(texts)]
+        ways = [lambda table: table, bytes, lambda table: bytearray(bytes(table)), lambda table: list(table.words)]
+        mixed = [ways[number % 4](table) for number, table in enumerate(tables)]
+        counts = [number % 5 for number in range(1203)]
+        self.assertEqual((sirbolta.count_each(tables, b"ab"), sirbolta.count_each(iter(mixed), bytearray(b"ab"))), (counts, counts))
+        self.assertEqual([sirbolta.count_each(tables[:some], b"ab") for some in (0, 1, 500, 501)], [counts[:some] for some in (0, 1, 500, 501)])
+        for some in 0, 499, 500, 1202:  # the first that is refused decides
+            refused = tables[:some] + [[0, 0xC0000000, 257, 0xC0000000], b""] + tables[some:]
+            with self.assertRaises(sirbolta.BadWord) as raised:
+                sirbolta.count_each(refused, b"ab")
+            self.assertEqual(raised.exception.place, 2)
+        self.assertRaises(sirbolta.PatternEmpty, sirbolta.count_each, tables, b"")
+        for wrong in self.table, None, [1, 2], "ab", [None], [self.table, "ab"]:
+            self.assertRaises(TypeError, sirbolta.count_each, wrong, b"ab")
+        self.assertRaises(TypeError, sirbolta.count_each, tables, "ab")
+        self.assertRaises(ValueError, sirbolta.count_each, [b"abc"], b"ab")
+
     def test_one_work_slice_a_thread(self):
         works = [self.handed(self.table)[2] for _ in range(2)]
         with ThreadPoolExecutor(1) as pool:

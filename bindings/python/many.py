@@ -16,7 +16,7 @@ tables = [sirbolta.Table(words) for (words,) in store.execute("select words from
 
 
 def finds(part):
-    return sum(table.count(motif) for table in part)
+    return sum(sirbolta.count_each(part, motif))
 
 
 with ThreadPoolExecutor(2) as pool:

@@ -28,11 +28,12 @@ from __future__ import annotations
 import ctypes
 from array import array
 from collections.abc import Iterable, Iterator, Mapping, Sequence, Set
+from itertools import islice
 from operator import index
-from typing import TYPE_CHECKING, NamedTuple, NoReturn, SupportsIndex, Union
+from typing import TYPE_CHECKING, Any, NoReturn, SupportsIndex, Union
 
 from ._native import INTERFACE, WORK as _WORK, Reply as _Reply, SearchReply as _SearchReply
-from ._native import library as _library, recursing as _recursing, work as _work
+from ._native import enough_stack as _enough_stack, library as _library, work as _work
 from .refusals import (
     BadWord, NotATable, PatternEmpty, PatternTooLong, RangePastEnd, Refusal, ResultTooShort, TableLength, TextTooLong, WorkTooShort, refusal as _refusal,
 )
@@ -43,8 +44,8 @@ else:
     Buffer = object
 
 __all__ = [
-    "INTERFACE", "Table", "build", "check", "read", "extract", "count", "locate", "live_cuts", "Refusal", "TextTooLong", "PatternEmpty", "PatternTooLong",
-    "WorkTooShort", "TableLength", "BadWord", "NotATable", "RangePastEnd", "ResultTooShort",
+    "INTERFACE", "Table", "build", "check", "read", "extract", "count", "count_each", "locate", "live_cuts", "Refusal", "TextTooLong", "PatternEmpty",
+    "PatternTooLong", "WorkTooShort", "TableLength", "BadWord", "NotATable", "RangePastEnd", "ResultTooShort",
 ]
 
 Samples = Buffer
@@ -55,6 +56,7 @@ _TABLE = 4_608
 _Bytes = ctypes.c_uint8 * _SAMPLES
 _Positions = ctypes.c_uint32 * _SAMPLES
 _TableWords = ctypes.c_uint32 * _TABLE
+_AT_ONCE = 500  # tables that are counted in by one call: some 10 ms, in which no signal is looked at
 _LARGEST = 2**64 - 1  # of a start or a length; no text reaches as far, so a larger number is refused alike
 
 
@@ -75,8 +77,8 @@ class Table:
     _bytes: bytes
 
     def __new__(cls, words: Words) -> Table:
-        table, packed = super().__new__(cls), _packed(words)
-        object.__setattr__(table, "_bytes", _view(words).tobytes() if packed is None else packed)
+        table = super().__new__(cls)
+        object.__setattr__(table, "_bytes", words._bytes if isinstance(words, Table) else words if type(words) is bytes else _view(words).tobytes())
         _in_words(len(table._bytes))
         return table
 
@@ -154,8 +156,7 @@ def check(table: Words) -> int:
     Traceback (most recent call last):
     sirbolta.refusals.BadWord: refused 6: word 2 of the table is bad
     """
-    with _words(table) as words:
-        return _counted(_library.sirbolta_check(words.start, words.length, _work(), _WORK))
+    return _counted(_with(table, _library.sirbolta_check, _work(), _WORK))
 
 
 def read(table: Words) -> tuple[bytes, int]:
@@ -164,10 +165,10 @@ def read(table: Words) -> tuple[bytes, int]:
     >>> read(build(b"abab", chair=40))
     (b'abab', 40)
     """
-    with _words(table) as words:
-        result = _Bytes()
-        reply = _recursing(_library.sirbolta_read, words.start, words.length, _work(), _WORK, result, _SAMPLES)
-        return ctypes.string_at(result, _counted(reply)), reply.chair
+    _enough_stack()
+    result = _Bytes()
+    reply = _with(table, _library.sirbolta_read, _work(), _WORK, result, _SAMPLES)
+    return ctypes.string_at(result, _counted(reply)), reply.chair
 
 
 def extract(table: Words, start: int, length: int) -> bytes:
@@ -176,11 +177,9 @@ def extract(table: Words, start: int, length: int) -> bytes:
     >>> extract(build(b"abab", chair=40), start=1, length=2)
     b'ba'
     """
-    with _words(table) as words:
-        start, length = min(_number(start, "start"), _LARGEST), min(_number(length, "length"), _LARGEST)
-        result = _Bytes()
-        reply = _library.sirbolta_extract(words.start, words.length, start, length, _work(), _WORK, result, _SAMPLES)
-        return ctypes.string_at(result, _counted(reply))
+    start, length = min(_number(start, "start"), _LARGEST), min(_number(length, "length"), _LARGEST)
+    result = _Bytes()
+    return ctypes.string_at(result, _counted(_with(table, _library.sirbolta_extract, start, length, _work(), _WORK, result, _SAMPLES)))
 
 
 def count(table: Words, pattern: Samples) -> int:
@@ -189,9 +188,24 @@ def count(table: Words, pattern: Samples) -> int:
     >>> count(build(b"aaaa", chair=40), b"aa")
     3
     """
-    with _words(table) as words:
-        samples = _samples(pattern)
-        return _counted(_library.sirbolta_count(words.start, words.length, samples, len(samples), _work(), _WORK))
+    samples = _samples(pattern)
+    return _counted(_with(table, _library.sirbolta_count, samples, len(samples), _work(), _WORK))
+
+
+def count_each(tables: Iterable[Words], pattern: Samples) -> list[int]:
+    """How often the pattern begins in the text of each table: `count` of each, many by one call of the library. Refusals: that of the first which is refused.
+
+    >>> count_each([build(b"aaaa", chair=40), build(b"abab", chair=40)], b"aa")
+    [3, 0]
+    """
+    samples, rest = _samples(pattern), iter(tables)
+    counts: list[int] = []
+    while words := [table._bytes if isinstance(table, Table) else Table(table)._bytes for table in islice(rest, _AT_ONCE)]:
+        number = len(words)
+        starts, lengths, replies = (ctypes.c_char_p * number)(*words), (ctypes.c_size_t * number)(*[len(each) // 4 for each in words]), (_SearchReply * number)()
+        _library.sirbolta_count_each(starts, lengths, number, samples, len(samples), _work(), _WORK, replies)
+        counts += [_counted(reply) for reply in replies]
+    return counts
 
 
 def locate(table: Words, pattern: Samples) -> list[int]:
@@ -200,10 +214,9 @@ def locate(table: Words, pattern: Samples) -> list[int]:
     >>> locate(build(b"aaaa", chair=40), b"aa")
     [0, 1, 2]
     """
-    with _words(table) as words:
-        samples, result = _samples(pattern), _Positions()
-        reply = _recursing(_library.sirbolta_locate, words.start, words.length, samples, len(samples), _work(), _WORK, result, _SAMPLES)
-        return result[: _counted(reply)]
+    _enough_stack()
+    samples, result = _samples(pattern), _Positions()
+    return result[: _counted(_with(table, _library.sirbolta_locate, samples, len(samples), _work(), _WORK, result, _SAMPLES))]
 
 
 def live_cuts(pattern: Samples) -> list[int]:
@@ -237,35 +250,15 @@ def _samples(value: Samples) -> bytes:
         return view.tobytes()
 
 
-class _Lent(NamedTuple):
-    """A table's words as the library takes them: bytes or an address, and how many words; what keeps them there is given back at the end of a `with`."""
-
-    start: bytes | int
-    length: int
-    keeper: memoryview | None = None
-
-    def __enter__(self) -> _Lent:
-        return self
-
-    def __exit__(self, *_: object) -> None:
-        if self.keeper is not None:
-            self.keeper.release()
-
-
-def _words(table: Words) -> _Lent:
-    """The words of a table, lent where they stand if the library can read them there."""
-    packed = _packed(table)
-    if packed is None:
-        view = _view(table)
-        if view.c_contiguous and (address := _address(view)) % 4 == 0:
-            return _Lent(address, view.nbytes // 4, view)
-        packed = view.tobytes()
-    return _Lent(packed, _in_words(len(packed)))
-
-
-def _packed(table: Words) -> bytes | None:
-    """The words of a table that has them as bytes."""
-    return table._bytes if isinstance(table, Table) else table if type(table) is bytes else None
+def _with(table: Words, service: Any, *arguments: Any) -> Any:
+    """The reply of a service to a table, whose words are lent where they stand if the library can read them there, and to further arguments."""
+    if isinstance(table, Table):
+        return service(table._bytes, len(table._bytes) // 4, *arguments)
+    if type(table) is bytes:
+        return service(table, _in_words(len(table)), *arguments)
+    with _view(table) as view:
+        aligned = view.c_contiguous and (address := _address(view)) % 4 == 0
+        return service(address if aligned else view.tobytes(), view.nbytes // 4, *arguments)
 
 
 def _in_words(length: int) -> int:

@@ -1,4 +1,4 @@
-"""The library as include/sirbolta.h declares it, loaded if it has this package's interface number; and what a thread has for its calls: a work slice, and a
+"""The library as include/sirbolta.h declares it, and the loop of each.c over its count, loaded if it has this package's interface number; and what a thread has for its calls: a work slice, and a
 stack that is large enough or not."""
 
 from __future__ import annotations
@@ -31,7 +31,7 @@ class SearchReply(ctypes.Structure):
 
 
 SLICE = [ctypes.c_void_p, ctypes.c_size_t]
-SERVICES: dict[str, tuple[type[ctypes.Structure], list[Any]]] = {
+SERVICES: dict[str, tuple[type[ctypes.Structure] | None, list[Any]]] = {
     "build": (Reply, SLICE + [ctypes.c_uint16] + SLICE * 2),
     "check": (Reply, SLICE * 2),
     "read": (Reply, SLICE * 3),
@@ -39,6 +39,7 @@ SERVICES: dict[str, tuple[type[ctypes.Structure], list[Any]]] = {
     "count": (SearchReply, SLICE * 3),
     "locate": (SearchReply, SLICE * 4),
     "live_cuts": (Reply, SLICE * 2),
+    "count_each": (None, [ctypes.c_void_p] * 2 + [ctypes.c_size_t] + SLICE * 2 + [ctypes.c_void_p]),
 }
 
 
@@ -76,18 +77,19 @@ def loaded(file: Path) -> ctypes.CDLL:
 
 def work() -> Any:
     """The running thread's work slice, made at its first call and lent to each."""
-    if not hasattr(this_thread, "work"):
+    try:
+        return this_thread.work
+    except AttributeError:
         this_thread.work = (ctypes.c_uint32 * WORK)()
-    return this_thread.work
+        return this_thread.work
 
 
-def recursing(function: Any, *arguments: Any) -> Any:
-    """The reply of a function that takes up to 240 KiB of stack, if the running thread's is not too small for that."""
+def enough_stack() -> None:
+    """An error, unless the running thread's stack is large enough for a function that takes up to 240 KiB of it."""
     if not hasattr(this_thread, "stack"):
         this_thread.stack = stack()
     if 0 < this_thread.stack < STACK:
         raise RuntimeError(f"up to 240 KiB of stack are needed, and this thread has {this_thread.stack >> 10} KiB in all: start it with more (threading.stack_size)")
-    return function(*arguments)
 
 
 def stack() -> int:
