@@ -250,19 +250,21 @@ fn text_length(table: &[u32], work: &[u32]) -> usize {
     at(work, LENGTHS + (table.len() / 2 - 1)) as usize - 1
 }
 
-/// The samples of rule r at the front: its left half, and in the rest of the slice its right half. Answers how many there are.
-fn spell(rules: &[u32], r: usize, result: &mut [u8]) -> usize {
-    let (x, y) = (at(rules, 2 * r), at(rules, 2 * r + 1));
+/// The samples of rule r, which begins with the mark, at the front: its left half, and in the rest of the slice its right half. Answers how many there are.
+fn spell(work: &[u32], r: usize, result: &mut [u8]) -> usize {
+    let (x, y) = (at(work, TABLE + 2 * r), at(work, TABLE + 2 * r + 1));
     if x < 1 << 30 {
-        if x == 0 {
-            return 0;
-        }
-        put(result, 0, (x - 1) as u8);
-        return 1;
+        return 0;
     }
-    let n = spell(rules, value(x) as usize, result);
-    let m = spell(rules, value(y) as usize, unsafe { result.get_unchecked_mut(n..) });
-    n + m
+    let n = spell(work, value(x) as usize, result);
+    n + spell_whole(work, value(y) as usize, unsafe { result.get_unchecked_mut(n..) })
+}
+
+/// The samples of rule r, which has no mark, from the ranks where it stands.
+fn spell_whole(work: &[u32], r: usize, result: &mut [u8]) -> usize {
+    let (place, length) = (at(work, PLACES + r) as usize, at(work, LENGTHS + r) as usize);
+    copy(part(work, place, place + length), result);
+    length
 }
 
 /// The text and the chair of a table; `write` writes the text that is loaded.
@@ -281,14 +283,14 @@ fn text_of(table: &[u32], work: &mut [u32], result: &mut [u8], write: impl FnOnc
 #[inline(never)]
 pub fn read(table: &[u32], work: &mut [u32], result: &mut [u8]) -> Answer {
     text_of(table, work, result, |work, _, result| {
-        spell(part(work, TABLE, TABLE + table.len()), table.len() / 2 - 1, result);
+        spell(work, table.len() / 2 - 1, result);
     })
 }
 
 /// Reading by a copy of the ranks that the root spells.
 #[inline(never)]
 pub fn copied(table: &[u32], work: &mut [u32], result: &mut [u8]) -> Answer {
-    text_of(table, work, result, |work, n, result| copy(work, 0, n, result))
+    text_of(table, work, result, |work, n, result| copy(part(work, 1, 1 + n), result))
 }
 
 /// The part of a table's text that begins at `start` and has `count` samples.
@@ -302,16 +304,16 @@ pub fn extract(table: &[u32], start: usize, count: usize, work: &mut [u32], resu
         if result.len() < count {
             return refused(9, count);
         }
-        copy(work, start, count, result);
+        copy(part(work, 1 + start, 1 + start + count), result);
         done(count, 0)
     })
 }
 
-/// The samples from `start` on, so many of them, from the ranks at the front.
-fn copy(work: &[u32], start: usize, count: usize, result: &mut [u8]) {
+/// The samples of ranks at the front.
+fn copy(ranks: &[u32], result: &mut [u8]) {
     let mut i = 0;
-    while i < count {
-        put(result, i, (at(work, 1 + start + i) - 1) as u8);
+    while i < ranks.len() {
+        put(result, i, (at(ranks, i) - 1) as u8);
         i += 1;
     }
 }

@@ -26,13 +26,13 @@ pub fn deliver(words: &[u32], result: &mut [u32]) -> Answer
 }
 
 // Reads what is loaded, whose table has so many rules: its text, or refusal 9, and its chair number.
-pub fn read_loaded(rules: usize, work: &[u32], result: &mut [u8]) -> ReadAnswer
-    requires { ⌜ ((h : Ready (now work)) × (rules ≡ rulesLoaded h)) ⌝ }
-    ensures { λ r. ⌜ ((h : Ready (now (work .entry))) → rules ≡ rulesLoaded h → Serves (writes [] (h .text) (h .chair) (now (result .entry))) (Reads r) (now (result .exit) ∷ [])) ⌝ }
+pub fn read_loaded(order: Order, rules: usize, work: &[u32], result: &mut [u8]) -> ReadAnswer
+    requires { ⌜ ((h : Ready (now work)) × (h .order ≡ order) × (rules ≡ rulesLoaded h)) ⌝ }
+    ensures { λ r. ⌜ ((h : Ready (now (work .entry))) → h .order ≡ order → rules ≡ rulesLoaded h → Serves (writes [] (h .text) (h .chair) (now (result .entry))) (Reads r) (now (result .exit) ∷ [])) ⌝ }
 {
     let end = TABLE + 2 * rules;
     let chair = chair_of(&work[TABLE..end]);
-    let a = deliver_text(rules, work, result);
+    let a = deliver_text(order, rules, work, result);
     with_chair(a, chair)
 }
 
@@ -61,14 +61,14 @@ pub fn deliver_part(
 }
 
 // Spells the text that is loaded, whose table has so many rules, or refuses by 9.
-fn deliver_text(rules: usize, work: &[u32], result: &mut [u8]) -> Answer
-    requires { ⌜ ((h : Ready (now work)) × (rules ≡ rulesLoaded h)) ⌝ }
-    ensures { λ r. ⌜ ((h : Ready (now (work .entry))) → rules ≡ rulesLoaded h → Serves (writes [] (h .text) 0 (now (result .entry))) (Answers r) (now (result .exit) ∷ [])) ⌝ }
+fn deliver_text(order: Order, rules: usize, work: &[u32], result: &mut [u8]) -> Answer
+    requires { ⌜ ((h : Ready (now work)) × (h .order ≡ order) × (rules ≡ rulesLoaded h)) ⌝ }
+    ensures { λ r. ⌜ ((h : Ready (now (work .entry))) → h .order ≡ order → rules ≡ rulesLoaded h → Serves (writes [] (h .text) 0 (now (result .entry))) (Answers r) (now (result .exit) ∷ [])) ⌝ }
 {
     let a = result_fits(spelling::text_length(rules, work), result.len());
     let Answer::Done(_) = a else {
         return a;
     };
-    spelling::spell_text(rules, work, result);
+    spelling::spell_text(order, rules, work, result);
     a
 }

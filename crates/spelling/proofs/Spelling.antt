@@ -1,31 +1,21 @@
--- What rules spell as bytes: a symbol its byte, a pair what its halves spell (`spelled-symbol`, `spelled-pair`); the root of an
--- accepted table spells the drive (`root-bytes`).
-use mathlib.Core.Path.{_≡_, refl, sym, _∙_, ap, ap₂}
-use mathlib.Core.Bool.{true}
-use mathlib.Core.List.{List, [], _∷_, _++_, map, map-append, List·Memᴰ·head as here, List·Memᴰ·tail as there}
-use Prim.Native.Nat.{ℕ, zero, suc, _+_, _-_, _≤_, _<_}
+-- Samples of strings of ranks: those of two strings in a row (`samples-append`), and of ranks without the mark (`samples-ranks`); and such ranks written
+-- to a slice one by one (`samples-more`).
+use mathlib.Core.Path.{_≡_, refl, sym, _∙_, ap}
+use mathlib.Core.List.{List, [], _∷_, _++_, map, map-append}
+use Prim.Native.Nat.{ℕ, zero, suc, _+_, _≤_, _<_}
 use native.Mathlib.Omega.{arith}
 use native.Mathlib.Numerals.{add-one}
 use lib.ListN.{length, take, getD, set, length-map}
 use lib.Seq.{take-suc, length-take-le}
 use Rattle.definitions.specs.declared.Order.{Order}
-use Rattle.definitions.specs.declared.Order.the-variants.{Unsigned}
 use Rattle.definitions.specs.Words.{placed}
-use Rattle.definitions.specs.Table.{rankOf, byteOf, rankOfNumber, marked, ruleString, spelled, textOf, isTable, ruleCount}
+use Rattle.definitions.specs.Table.{byteOf}
 use Rattle.lists.specs.Lists.{placed-more}
-use Rattle.lyndon.specs.Ranks.{Bytes, rank-range, byte-of-rank}
-use Rattle.lyndon.specs.Stored.{accepted-stored, accepted-spelled}
-use Rattle.lyndon.specs.Shapes.{Shaped}
-use Rattle.decoding.specs.declared.Rule.{Rule}
-use Rattle.decoding.specs.declared.Rule.the-variants.{Symbol, Pair}
-use Rattle.decoding.specs.Decoding.{ruleAt}
-use Rattle.lyndon.specs.Ruled.{SymbolOf, PairOf}
-use Rattle.decoding.proofs.Rules.{symbol-read, pair-read}
-use Rattle.spelling.specs.Spelling.{samples, symbolBytes, ruleBytes}
+use Rattle.spelling.specs.Spelling.{samples, Ranks}
 
 -- ---- samples of strings
 
-samples-append : (o : Order) (x y : List ℕ) → samples o (x ++ y) ≡ samples o x ++ samples o y
+pub samples-append : (o : Order) (x y : List ℕ) → samples o (x ++ y) ≡ samples o x ++ samples o y
 unfolding samples
 samples-append o [] y = refl
 samples-append o (zero ∷ x) y = samples-append o x y
@@ -36,83 +26,12 @@ unfolding samples
 samples-cons o zero s h = absurd (omega arith)
 samples-cons o (suc r) s h = refl
 
-symbol-samples : (o : Order) (n : ℕ) → n < 257 → samples o (rankOfNumber o n ∷ []) ≡ symbolBytes n
-unfolding samples rankOfNumber symbolBytes
-symbol-samples o zero h = refl
-symbol-samples o (suc b) h =
-    samples-cons o (rankOf o b) [] (rank-range o b (omega arith) .0)
-    ∙ ap (λ (x : ℕ). x ∷ []) (byte-of-rank o b (omega arith))
-
-ranks-samples : (o : Order) (text : List ℕ) → Bytes text → samples o (map (rankOf o) text) ≡ text
+pub samples-ranks : (o : Order) (s : List ℕ) → Ranks s → samples o s ≡ map (byteOf o) s
 unfolding samples
-ranks-samples o [] h = refl
-ranks-samples o (b ∷ text) h =
-    samples-cons o (rankOf o b) (map (rankOf o) text) (rank-range o b (h b (here refl)) .0)
-    ∙ ap₂ {C = List ℕ} (λ x l. x ∷ l) (byte-of-rank o b (h b (here refl))) (ranks-samples o text (λ x m. h x (there m)))
-
-marked-samples : (o : Order) (text : List ℕ) → Bytes text → samples o (marked o text) ≡ text
-unfolding samples marked
-marked-samples o text h = ranks-samples o text h
-
--- ---- rules
-
-symbol-bytes : (o : Order) (t : List ℕ) (r a b : ℕ) → SymbolOf t r a b → samples o (ruleString o t r) ≡ symbolBytes a
-symbol-bytes o t r a b h = ap (samples o) (h .string o) ∙ symbol-samples o a (h .number)
-
-pair-bytes : (o : Order) (t : List ℕ) (r u v : ℕ) → PairOf t r u v → samples o (ruleString o t r) ≡ samples o (ruleString o t u) ++ samples o (ruleString o t v)
-pair-bytes o t r u v h = ap (samples o) (h .string o) ∙ samples-append o (ruleString o t u) (ruleString o t v)
-
-module _ (t : List ℕ) (s : Shaped t) where
-  -- the bytes of a rule are the same in each order
-  below-samples : (o : Order) (b r : ℕ) → r < b → r < ruleCount t → samples o (ruleString o t r) ≡ ruleBytes t r
-  unfolding ruleBytes
-  below-samples o zero r l h = absurd (omega arith)
-  below-samples o (suc b) r l h = go (ruleAt t r) refl (λ q m. below-samples o b q (omega arith) (omega arith))
-    where
-      go : (x : Rule) → ruleAt t r ≡ x → ((q : ℕ) → q < r → samples o (ruleString o t q) ≡ samples Unsigned (ruleString Unsigned t q)) → samples o (ruleString o t r) ≡ samples Unsigned (ruleString Unsigned t r)
-      go (Symbol a c) e ih = let k = symbol-read t r s h a c e in symbol-bytes o t r a c k ∙ sym (symbol-bytes Unsigned t r a c k)
-      go (Pair u v) e ih =
-          let k = pair-read t r s h u v e in
-          pair-bytes o t r u v k ∙ ap₂ {C = List ℕ} (λ a b. a ++ b) (ih u (k .left)) (ih v (k .right)) ∙ sym (pair-bytes Unsigned t r u v k)
-
-  pub rule-samples : (o : Order) (r : ℕ) → r < ruleCount t → samples o (ruleString o t r) ≡ ruleBytes t r
-  rule-samples o r h = below-samples o (suc r) r (omega arith) h
-
-  module _ (r : ℕ) (h : r < ruleCount t) where
-    pub spelled-symbol : (a b : ℕ) → ruleAt t r ≡ Symbol a b → (a < 257) × (ruleBytes t r ≡ symbolBytes a)
-    unfolding ruleBytes
-    spelled-symbol a b e = let k = symbol-read t r s h a b e in (k .number, symbol-bytes Unsigned t r a b k)
-
-    pub spelled-pair : (u v : ℕ) → ruleAt t r ≡ Pair u v → (u < r) × (v < r) × (ruleBytes t r ≡ ruleBytes t u ++ ruleBytes t v)
-    unfolding ruleBytes
-    spelled-pair u v e = let k = pair-read t r s h u v e in (k .left, k .right, pair-bytes Unsigned t r u v k)
-
--- the root of an accepted table
-pub root-bytes : (o : Order) (t : List ℕ) → Shaped t → isTable o t ≡ true → ruleBytes t (ruleCount t - 1) ≡ textOf o t
-unfolding spelled
-root-bytes o t s e =
-    sym (rule-samples t s o (ruleCount t - 1) (omega (arith, s .even, s .filled)))
-    ∙ ap (samples o) (accepted-spelled o t e)
-    ∙ marked-samples o (textOf o t) (accepted-stored o t e .bytes)
-
--- ---- a symbol in a slice
-
-pub mark-placed : (n : ℕ) (old : List ℕ) → n ≡ 0 → (0 ≡ length (symbolBytes n)) × (old ≡ placed (symbolBytes n) old)
-unfolding symbolBytes placed
-mark-placed n old e = rw e (refl, refl)
-
-pub sample-size : (n : ℕ) → (n ≡ 0 → ⊥) → 1 ≡ length (symbolBytes n)
-unfolding symbolBytes
-sample-size zero h = absurd (h refl)
-sample-size (suc b) h = refl
-
-pub sample-placed : (n : ℕ) (old : List ℕ) → (n ≡ 0 → ⊥) → 0 < length old → set old 0 (n - 1) ≡ placed (symbolBytes n) old
-unfolding symbolBytes placed
-sample-placed zero old h l = absurd (h refl)
-sample-placed (suc b) [] h l = absurd (omega arith)
-sample-placed (suc b) (a ∷ old) h l =
-    let e : suc b - 1 ≡ b = omega arith in
-    rw e
+samples-ranks o [] h = refl
+samples-ranks o (r ∷ s) h =
+    samples-cons o r s (h 0 (omega arith) .0)
+    ∙ ap (λ (l : List ℕ). byteOf o r ∷ l) (samples-ranks o s (λ i k. h (suc i) (omega arith)))
 
 -- ---- samples of ranks in a slice
 

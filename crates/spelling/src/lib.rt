@@ -1,20 +1,19 @@
-// Spelling the text that is loaded: whole, by recursion over the rules, or a part of it from its ranks.
+// Spelling the text that is loaded: whole, by recursion over the rules that begin with the mark, or a part of it from its ranks.
 use decoding::Rule;
-use decoding::rule_of;
+use decoding::rule_in;
 use definitions::Order;
 use layout::LENGTHS;
-use layout::TABLE;
+use layout::PLACES;
 use ranks::byte_of;
 use slices::wide;
 ghost use mathlib.Core.Path.{_≡_};
 ghost use mathlib.Core.List.{map};
-ghost use Prim.Native.Nat.{_+_, _≤_, _<_};
+ghost use Prim.Native.Nat.{_+_, _≤_};
 ghost use lib.ListN.{length, take, drop};
 ghost use Rattle.definitions.specs.Words.{placed};
-ghost use Rattle.definitions.specs.Table.{byteOf, ruleCount};
+ghost use Rattle.definitions.specs.Table.{byteOf};
 ghost use Rattle.state.specs.State.{Ready, rulesLoaded};
-ghost use Rattle.lyndon.specs.Shapes.{Shaped};
-ghost use Rattle.spelling.specs.Spelling.{Ranks, symbolBytes, ruleBytes};
+ghost use Rattle.spelling.specs.Spelling.{Ranks, ruleBytes, WithMark, WithoutMark, Spelled};
 
 // The number of samples of the text that is loaded, whose table has so many rules: the root's length without the mark.
 pub fn text_length(rules: usize, work: &[u32]) -> usize
@@ -25,44 +24,37 @@ pub fn text_length(rules: usize, work: &[u32]) -> usize
 }
 
 // Spells the text that is loaded, whose table has so many rules, at the front of a slice.
-pub fn spell_text(rules: usize, work: &[u32], result: &mut [u8])
-    requires { ⌜ ((h : Ready (now work)) × (rules ≡ rulesLoaded h) × (length (h .text) ≤ length (now result))) ⌝ }
-    ensures { λ _. ⌜ ((h : Ready (now (work .entry))) → rules ≡ rulesLoaded h → now (result .exit) ≡ placed (h .text) (now (result .entry))) ⌝ }
+pub fn spell_text(order: Order, rules: usize, work: &[u32], result: &mut [u8])
+    requires { ⌜ ((h : Ready (now work)) × (h .order ≡ order) × (rules ≡ rulesLoaded h) × (length (h .text) ≤ length (now result))) ⌝ }
+    ensures { λ _. ⌜ ((h : Ready (now (work .entry))) → h .order ≡ order → rules ≡ rulesLoaded h → now (result .exit) ≡ placed (h .text) (now (result .entry))) ⌝ }
 {
-    let end = TABLE + 2 * rules;
-    spell(&work[TABLE..end], rules - 1, result);
+    spell(order, rules - 1, work, result);
 }
 
-// Spells rule r at the front of a slice: its left half, and in the rest of the slice its right half. Answers how many samples there are.
-fn spell(rules: &[u32], r: usize, result: &mut [u8]) -> usize
-    requires { ⌜ Shaped (now rules) × (r < ruleCount (now rules)) × (length (ruleBytes (now rules) r) ≤ length (now result)) ⌝ }
-    ensures { λ n. ⌜ n ≡ length (ruleBytes (now (rules .entry)) r) ⌝ }
-    ensures { λ _. ⌜ now (result .exit) ≡ placed (ruleBytes (now (rules .entry)) r) (now (result .entry)) ⌝ }
+// Spells rule r, which begins with the mark, at the front of a slice: its left half, and in the rest of the slice its right half. Answers how many
+// samples there are: the mark is none.
+fn spell(order: Order, r: usize, work: &[u32], result: &mut [u8]) -> usize
+    requires { ⌜ ((h : Ready (now work)) × (h .order ≡ order) × WithMark h r × (length (ruleBytes h r) ≤ length (now result))) ⌝ }
+    ensures { λ n. ⌜ ((h : Ready (now (work .entry))) → h .order ≡ order → WithMark h r → Spelled h r n (now (result .entry)) (now (result .exit))) ⌝ }
 {
-    let rule = rule_of(rules, r);
-    match rule {
-        Rule::Symbol(number, _) => {
-            return spell_symbol(number, result);
-        }
-        Rule::Pair(left, right) => {
-            let n = spell(rules, left, result);
-            let m = spell(rules, right, &mut result[n..]);
-            return n + m;
-        }
-    }
-}
-
-// Spells a symbol's number: the mark is no sample.
-fn spell_symbol(number: u32, result: &mut [u8]) -> usize
-    requires { ⌜ (number < 257) × (length (symbolBytes number) ≤ length (now result)) ⌝ }
-    ensures { λ n. ⌜ n ≡ length (symbolBytes number) ⌝ }
-    ensures { λ _. ⌜ now (result .exit) ≡ placed (symbolBytes number) (now (result .entry)) ⌝ }
-{
-    if number == 0 {
+    let rule = rule_in(work, r);
+    let Rule::Pair(left, right) = rule else {
         return 0;
-    }
-    result[0] = (number - 1) as u8;
-    1
+    };
+    let n = spell(order, left, work, result);
+    n + copy_rule(order, right, work, &mut result[n..])
+}
+
+// Spells rule r, which has no mark, at the front of a slice: its ranks are copied from where it stands. Answers how many samples there are.
+fn copy_rule(order: Order, r: usize, work: &[u32], result: &mut [u8]) -> usize
+    requires { ⌜ ((h : Ready (now work)) × (h .order ≡ order) × WithoutMark h r × (length (ruleBytes h r) ≤ length (now result))) ⌝ }
+    ensures { λ n. ⌜ ((h : Ready (now (work .entry))) → h .order ≡ order → WithoutMark h r → Spelled h r n (now (result .entry)) (now (result .exit))) ⌝ }
+{
+    let place = wide(work[PLACES + r]);
+    let count = wide(work[LENGTHS + r]);
+    let end = place + count;
+    write_samples(order, &work[place..end], result);
+    count
 }
 
 // Writes the part of the text that is loaded, `count` samples from `start` on, at the front of a slice.

@@ -1,52 +1,51 @@
 -- `read_loaded` delivers the text, and answers with the chair number, which stands in the table that is loaded.
-use mathlib.Core.Path.{_∙_, ap}
-use Prim.Native.Nat.{ℕ}
+use mathlib.Core.Path.{_≡_, sym, _∙_, ap, subst}
+use mathlib.Core.List.{List}
+use Prim.Native.Nat.{ℕ, _+_, _-_, _*_, _≤_}
 use native.Mathlib.Omega.{arith}
-use lib.ListN.{length}
+use lib.ListN.{length, take, drop}
 use borrow.Author.Needs.{needs}
-use Rattle.definitions.specs.Table.{chairOf}
+use Rattle.definitions.specs.Table.{tableOf, chairOf}
 use Rattle.definitions.specs.Services.{done, readOutcome}
+use Rattle.lists.specs.Parts.{part-taken}
 use Rattle.lists.specs.Serving.{restated}
-use Rattle.lyndon.specs.Stored.{table-chair}
+use Rattle.lyndon.specs.Shapes.{Shaped, stored-shaped}
+use Rattle.lyndon.specs.Stored.{table-length, rule-range, table-chair}
+use Rattle.layout.specs.Layout.{TABLE}
+use Rattle.state.specs.State.{Ready, rulesLoaded}
 use Rattle.results.proofs.Chairs.{chair-refused, chair-done}
-use Rattle.spelling.proofs.Texts.{loaded-table, loaded-root}
 use Rattle.delivery.proofs.read_loaded.Statement.{statement}
 use Rattle.delivery.proofs.read_loaded.Tie as tie
 
-mul-end : tie.Need-mul-end
-mul-end c =
-    let s = c .before .before in
-    omega (arith, loaded-root (s .args .work .now) (s .pre .0) (s .args .rules) (s .pre .1) .most)
+-- the rules in the table area are the table
+loaded-table : (w : List ℕ) (h : Ready w) (n : ℕ) → n ≡ rulesLoaded h → take (TABLE + 2 * n - TABLE) (drop TABLE w) ≡ tableOf (h .order) (h .text) (h .chair)
+loaded-table w h n e =
+    let size : TABLE + 2 * n - TABLE ≡ length (tableOf (h .order) (h .text) (h .chair)) = omega (arith, table-length (h .order) (h .text) (h .chair) (h .loaded .kept .stored)) in
+    part-taken TABLE (TABLE + 2 * n - TABLE) (length (tableOf (h .order) (h .text) (h .chair))) w size ∙ h .loaded .kept .table
 
-add-end : tie.Need-add-end
-add-end c =
-    let s = c .before .before in
-    omega (arith, loaded-root (s .args .work .now) (s .pre .0) (s .args .rules) (s .pre .1) .most)
-
-part-chair-of-end : tie.Need-part-chair-of-end
-part-chair-of-end c =
-    let s = c .before .before in
-    omega (arith, loaded-root (s .args .work .now) (s .pre .0) (s .args .rules) (s .pre .1) .most, s .pre .0 .loaded .kept .long)
+most : (s : tie.Start) → s .args .rules ≤ 2304
+most s = let h = s .pre .0 in omega (arith, s .pre .2, rule-range (h .order) (h .text) (h .chair) (h .loaded .kept .stored))
 
 chair-of-requires : tie.Need-chair-of-requires
 chair-of-requires c κs =
     let s = c .before .before .before in
-    loaded-root (s .args .work .now) (s .pre .0) (s .args .rules) (s .pre .1) .shaped
+    let h = s .pre .0 in
+    subst Shaped (sym (loaded-table (s .args .work .now) h (s .args .rules) (s .pre .2))) (stored-shaped (h .order) (h .text) (h .chair) (h .loaded .kept .stored))
 
 returns : tie.Need-returns
-returns c h e =
+returns c h e size =
     let d = c .before .before .before in
     let k = d .before .before in
     let s = k .before .before .before .before in
-    let w = s .args .work .now in
-    let chair = k .chair-of .ensures ∙ ap chairOf (loaded-table w h (s .args .rules) e) ∙ table-chair (h .order) (h .text) (h .chair) (h .loaded .kept .stored) in
+    let chair = k .chair-of .ensures ∙ ap chairOf (loaded-table (s .args .work .now) h (s .args .rules) size) ∙ table-chair (h .order) (h .text) (h .chair) (h .loaded .kept .stored) in
     let r = d .deliver-text .result in
     restated (λ i j q. ap readOutcome (c .with-chair .ensures) ∙ chair-refused r (k .chair-of .result) i j q)
     (λ q. ap readOutcome (c .with-chair .ensures) ∙ chair-done r (k .chair-of .result) (length (h .text)) q ∙ ap (λ (n : ℕ). done (length (h .text)) n) chair)
-    (d .deliver-text .ensures h e)
+    (d .deliver-text .ensures h e size)
 
 pub read-loaded-spec : {M : Type 1} → statement M
 read-loaded-spec =
     tie.close
-    (tie.spec mul-end add-end (λ c. search needs) (λ c. search needs) part-chair-of-end chair-of-requires (λ c κs. search needs) (λ c κs. search needs)
+    (tie.spec (λ c. omega (arith, most (c .before .before))) (λ c. omega (arith, most (c .before .before))) (λ c. search needs) (λ c. search needs)
+    (λ c. let s = c .before .before in omega (arith, most s, s .pre .0 .loaded .kept .long)) chair-of-requires (λ c κs. search needs) (λ c κs. search needs)
     (λ c. search needs) returns)

@@ -27,7 +27,7 @@ unfolding ready
 read-loaded-requires c κs =
     let k = c .before .before .before .before in
     let (p, x, e) = opening-done (k .before .before .before .before .admit .ensures) (k .a .given .1) in
-    (ready x, e)
+    (ready x, refl, e)
 
 clear-front-requires : tie.Need-clear-front-requires
 clear-front-requires c κs =
@@ -43,7 +43,7 @@ returns-2 c =
     let m = k .before .before .before .before in
     let a = m .before .before .before .before .before .args in
     let (p, x, e) = opening-done (m .admit .ensures) (k .a .given .1) in
-    passed p (worked (a .work .now) (z .clear-front .last .0) (refl, refl) (z .clear-front .ensures ∙ opened-cleared x) (b .read-loaded .ensures (ready x) e))
+    passed p (worked (a .work .now) (z .clear-front .last .0) (refl, refl) (z .clear-front .ensures ∙ opened-cleared x) (b .read-loaded .ensures (ready x) refl e))
 
 pub read-spec : {M : Type 1} → statement M
 read-spec =

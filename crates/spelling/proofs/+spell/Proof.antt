@@ -1,20 +1,21 @@
--- `spell` writes the bytes of the left half, and in the rest of the slice those of the right half; both are rules before it.
-use mathlib.Core.Path.{_≡_, sym, _∙_, ap}
-use mathlib.Core.List.{List, _++_}
+-- `spell` writes the bytes of the left half, and in the rest of the slice those of the right half; the left half is a rule before it.
+use mathlib.Core.Path.{sym, _∙_, ap}
+use mathlib.Core.List.{List}
 use Prim.Native.Nat.{ℕ, _+_, _≤_, _<_}
 use native.Mathlib.Omega.{arith}
 use borrow.Author.Needs.{needs}
-use lib.ListN.{length, length-append, length-take, length-drop}
+use lib.ListN.{length, length-take, length-drop}
 use borrow.Fn.Kinds.{In}
 use borrow.Fn.PlainCycle.{Measures, is, falls, and}
 use Rattle.definitions.specs.Words.{placed}
-use Rattle.lists.specs.Lists.{placed-both}
-use Rattle.decoding.proofs.rule_of.Reads as rule-of-reads
-use Rattle.spelling.specs.Spelling.{symbolBytes, ruleBytes}
-use Rattle.spelling.proofs.Spelling.{spelled-symbol, spelled-pair}
+use Rattle.lists.specs.Lists.{placed-none, placed-both}
+use Rattle.state.specs.State.{Ready}
+use Rattle.decoding.proofs.rule_in.Reads as rule-in-reads
+use Rattle.spelling.specs.Spelling.{ruleBytes, WithMark}
+use Rattle.spelling.proofs.Texts.{Halves, rule-low, mark-spelled, halves-spelled, halves-size}
 use Rattle.spelling.proofs.spell.Reads as spell
 use Rattle.spelling.proofs.spell.Kinds as spell-kinds
-use Rattle.spelling.proofs.spell_symbol.Reads as spell-symbol-reads
+use Rattle.spelling.proofs.copy_rule.Reads as copy-rule-reads
 use Rattle.spelling.proofs.+spell.Lts-spell as spell-lts
 use Rattle.spelling.proofs.+spell.{statement}
 use Rattle.spelling.proofs.+spell.Tie.{close}
@@ -29,86 +30,94 @@ abbrev spell-below : ℕ → In 2 spell-kinds.ps
 spell-below t = and 2 spell-kinds.ps (falls 2 spell-kinds.ps _<_ μ-spell t) spell.Pre
 
 abbrev calls : ℕ → spell-lts.Claims
-calls t = (rule-of-reads.Asked, rule-of-reads.Learnt, spell-symbol-reads.Asked, spell-symbol-reads.Learnt, spell-below t, spell.Post)
+calls t = (rule-in-reads.Asked, rule-in-reads.Learnt, spell-below t, spell.Post, copy-rule-reads.Asked, copy-rule-reads.Learnt)
 
--- a rule that is read as a symbol
-symbol-known : (t : ℕ) (c : spell-lts.After-rule (calls t) (spell-at t) spell.Post) → let a = c .before .before .before .before .before .args in
-    let n = c .rule .given .0 .0 in
-    (n < 257) × (ruleBytes (a .rules .now) (a .r) ≡ symbolBytes n)
-symbol-known t c =
-    let (q, e) = c .rule .given in
-    let r = c .before .before in
-    let s = r .before .before .before in
-    spelled-symbol (s .args .rules .now) (s .pre .1 .0) (s .args .r) (s .pre .1 .1) (q .0) (q .1 .0) (sym (r .rule-of .ensures) ∙ e)
+rule-in-requires : (t : ℕ) → spell-lts.Need-rule-in-requires (calls t) (spell-at t) spell.Post
+rule-in-requires t c κs =
+    let s = c .before .before in
+    let (h, e, m, room) = s .pre .1 in
+    record { low = omega (arith, rule-low (s .args .work .now) h (s .args .r) (m .low)); long = h .loaded .kept .long }
 
-spell-symbol-requires : (t : ℕ) → spell-lts.Need-spell-symbol-requires (calls t) (spell-at t) spell.Post
-spell-symbol-requires t c κs = let (small, e) = symbol-known t (c .before .before) in (small, omega (arith, ap length e))
-
+-- a rule that is no pair is the mark
 returns : (t : ℕ) → spell-lts.Need-returns (calls t) (spell-at t) spell.Post
-returns t c =
-    let called = c .before .before in
-    let rule = called .before .before .before in
-    let (small, e) = symbol-known t rule in (
-      called .spell-symbol .ensures .0 ∙ ap length (sym e),
-      called .spell-symbol .ensures .1 ∙ ap (λ (l : List ℕ). placed l (rule .before .before .before .before .before .args .result .now)) (sym e),
-    )
+returns t c h e m =
+    let read = c .before .before in
+    let a = read .before .before .before .args in
+    let (q, told) = c .enum-told .given in
+    let none = mark-spelled (a .work .now) h (a .r) (q .0) (q .1 .0) m (sym (read .rule-in .ensures) ∙ told) in
+    record {
+      number = sym (ap length none);
+      front = sym (placed-none (a .result .now)) ∙ ap (λ (l : List ℕ). placed l (a .result .now)) (sym none);
+    }
 
 -- a rule that is read as a pair
-pair-known : (t : ℕ) (c : spell-lts.After-rule2 (calls t) (spell-at t) spell.Post) → let a = c .before .before .before .before .before .args in
-    let u = c .rule2 .given .0 .0 in
-    let v = c .rule2 .given .0 .1 .0 in
-    (u < a .r) × (v < a .r) × (ruleBytes (a .rules .now) (a .r) ≡ ruleBytes (a .rules .now) u ++ ruleBytes (a .rules .now) v)
-    × (length (ruleBytes (a .rules .now) (a .r)) ≡ length (ruleBytes (a .rules .now) u) + length (ruleBytes (a .rules .now) v))
-pair-known t c =
-    let (q, e) = c .rule2 .given in
-    let r = c .before .before in
-    let s = r .before .before .before in
-    let x = s .args .rules .now in
-    let (left, right, bytes) = spelled-pair x (s .pre .1 .0) (s .args .r) (s .pre .1 .1) (q .0) (q .1 .0) (sym (r .rule-of .ensures) ∙ e) in
-    (left, right, bytes, ap length bytes ∙ length-append (ruleBytes x (q .0)) (ruleBytes x (q .1 .0)))
+halves : (t : ℕ) (c : spell-lts.After-rule (calls t) (spell-at t) spell.Post) → let a = c .before .before .before .before .before .args in
+    (h : Ready (a .work .now)) → WithMark h (a .r) → Halves h (a .r) (c .rule .given .0 .0) (c .rule .given .0 .1 .0)
+halves t c h m =
+    let (q, told) = c .rule .given in
+    let read = c .before .before in
+    let a = read .before .before .before .args in
+    halves-spelled (a .work .now) h (a .r) (q .0) (q .1 .0) m (sym (read .rule-in .ensures) ∙ told)
 
 spell-requires : (t : ℕ) → spell-lts.Need-spell-requires (calls t) (spell-at t) spell.Post
 spell-requires t c κs =
     let s = c .before .before .before .before .before .before .before in
-    let (left, right, bytes, size) = pair-known t (c .before .before) in
-    (omega (arith, s .pre .0), (s .pre .1 .0, omega (arith, s .pre .1 .1), omega (arith, s .pre .1 .2)))
+    let (h, e, m, room) = s .pre .1 in
+    let k = halves t (c .before .before) h m in
+    (omega (arith, s .pre .0, k .left), (h, e, k .first, omega (arith, halves-size k, room)))
 
 -- once the left half is spelled there is room for the right half
 left-fits : (t : ℕ) (c : spell-lts.After-spell (calls t) (spell-at t) spell.Post) → let s = c .before .before .before .before .before .before .before .before in
-    c .spell .result + length (ruleBytes (s .args .rules .now) (c .before .before .before .rule2 .given .0 .1 .0)) ≤ length (s .args .result .now)
+    let h = s .pre .1 .0 in
+    let v = c .before .before .before .rule .given .0 .1 .0 in
+    c .spell .result + length (ruleBytes h v) ≤ length (s .args .result .now)
 left-fits t c =
-    let (left, right, bytes, size) = pair-known t (c .before .before .before) in
-    omega (arith, c .spell .ensures .0, c .before .before .before .before .before .before .before .before .pre .1 .2)
+    let rule = c .before .before .before in
+    let s = rule .before .before .before .before .before in
+    let (h, e, m, room) = s .pre .1 in
+    let k = halves t rule h m in
+    omega (arith, halves-size k, room, c .spell .ensures h e (k .first) .number)
 
-spell-requires-2 : (t : ℕ) → spell-lts.Need-spell-requires-2 (calls t) (spell-at t) spell.Post
-spell-requires-2 t c κs =
+copy-rule-requires : (t : ℕ) → spell-lts.Need-copy-rule-requires (calls t) (spell-at t) spell.Post
+copy-rule-requires t c κs =
     let called = c .before .before .before in
-    let s = called .before .before .before .before .before .before .before .before in
-    let (left, right, bytes, size) = pair-known t (called .before .before .before) in (
-      omega (arith, s .pre .0),
-      (s .pre .1 .0, omega (arith, s .pre .1 .1), simp (length-take, length-drop) (omega (arith, left-fits t called, called .spell .kept .1 .1 .0))),
-    )
-
-returns-2 : (t : ℕ) → spell-lts.Need-returns-2 (calls t) (spell-at t) spell.Post
-returns-2 t c =
-    let again = c .before .before in
-    let called = again .before .before .before .before in
     let rule = called .before .before .before in
     let s = rule .before .before .before .before .before in
-    let (left, right, bytes, size) = pair-known t rule in
-    let x = s .args .rules .now in
+    let (h, e, m, room) = s .pre .1 in
+    (h, e, halves t rule h m .rest, simp (length-take, length-drop) (omega (arith, left-fits t called, called .spell .kept .1 .1 .1 .0)))
+
+both-fit : (t : ℕ) (c : spell-lts.After-copy-rule (calls t) (spell-at t) spell.Post) → let called = c .before .before .before .before in
+    let s = called .before .before .before .before .before .before .before .before in
+    called .spell .result + c .copy-rule .result ≤ length (s .args .result .now)
+both-fit t c =
+    let called = c .before .before .before .before in
+    let rule = called .before .before .before in
+    let (h, e, m, room) = rule .before .before .before .before .before .pre .1 in
+    omega (arith, left-fits t called, c .copy-rule .ensures h e (halves t rule h m .rest) .number)
+
+returns-2 : (t : ℕ) → spell-lts.Need-returns-2 (calls t) (spell-at t) spell.Post
+returns-2 t c h e m =
+    let copied = c .before .before in
+    let called = copied .before .before .before .before in
+    let rule = called .before .before .before in
+    let s = rule .before .before .before .before .before in
+    let k = halves t rule h m in
     let old = s .args .result .now in
-    let u = rule .rule2 .given .0 .0 in
-    let v = rule .rule2 .given .0 .1 .0 in (
-      omega (arith, size, called .spell .ensures .0, again .spell2 .ensures .0),
-      placed-both (ruleBytes x u) (ruleBytes x v) old (called .spell .last .1 .1 .0) (again .spell2 .last .1 .1 .0) (called .spell .result) (called .spell .ensures .0)
-          (omega (arith, size, s .pre .1 .2)) (called .spell .ensures .1) (again .spell2 .ensures .1)
-          ∙ ap (λ (q : List ℕ). placed q old) (sym bytes),
-    )
+    let u = rule .rule .given .0 .0 in
+    let v = rule .rule .given .0 .1 .0 in
+    let left = called .spell .ensures h e (k .first) in
+    let right = copied .copy-rule .ensures h e (k .rest) in
+    record {
+      number = omega (arith, halves-size k, left .number, right .number);
+      front =
+          placed-both (ruleBytes h u) (ruleBytes h v) old (called .spell .last .1 .1 .1 .0) (copied .copy-rule .last .1 .1 .1 .0) (called .spell .result) (left .number)
+          (omega (arith, both-fit t copied, left .number, right .number)) (left .front) (right .front)
+          ∙ ap (λ (q : List ℕ). placed q old) (sym (k .bytes));
+    }
 
 pub +spell-spec : {M : Type 1} → statement M
 +spell-spec = close μ-spell λ t. spell-lts.spec (calls t) (spell-at t) spell.Post
-    (λ c κs. let s = c .before .before in omega (arith, s .pre .1 .0 .even, s .pre .1 .1)) (λ c. search needs) (spell-symbol-requires t) (λ c. search needs) (returns t)
-    (λ c. search needs) (spell-requires t) (λ c. omega (arith, left-fits t (c .before .before), c .before .before .spell .kept .1 .1 .0))
-    (λ c. omega (arith, left-fits t (c .before .before), c .before .before .spell .kept .1 .1 .0)) (λ c. omega arith) (spell-requires-2 t)
-    (λ c. omega (arith, left-fits t (c .before .before .before .before .before .before), c .before .before .spell2 .ensures .0)) (λ c. search needs) (returns-2 t)
+    (rule-in-requires t) (λ c. search needs) (λ c. search needs) (returns t)
+    (spell-requires t) (λ c. omega (arith, left-fits t (c .before .before), c .before .before .spell .kept .1 .1 .1 .0))
+    (λ c. omega (arith, left-fits t (c .before .before), c .before .before .spell .kept .1 .1 .1 .0)) (λ c. omega arith) (copy-rule-requires t)
+    (λ c. omega (arith, both-fit t (c .before .before))) (λ c. search needs) (returns-2 t)

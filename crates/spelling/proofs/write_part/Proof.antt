@@ -30,7 +30,7 @@ returns c h e fits =
     let ranks = take (1 + a .start + a .count - (1 + a .start)) (drop (1 + a .start) (a .work .now)) in
     c .before .before .write-samples .ensures
     ∙ ap (λ (o : Order). placed (map (byteOf o) ranks) (a .result .now)) (sym e)
-    ∙ ap (λ (l : List ℕ). placed l (a .result .now)) (piece .bytes)
+    ∙ ap (λ (l : List ℕ). placed l (a .result .now)) (piece .same)
 
 pub write-part-spec : {M : Type 1} → statement M
 write-part-spec =
