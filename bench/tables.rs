@@ -257,11 +257,11 @@ fn spell(work: &[u32], r: usize, result: &mut [u8]) -> usize {
         return 0;
     }
     let n = spell(work, value(x) as usize, result);
-    n + spell_whole(work, value(y) as usize, unsafe { result.get_unchecked_mut(n..) })
+    n + copy_rule(work, value(y) as usize, unsafe { result.get_unchecked_mut(n..) })
 }
 
 /// The samples of rule r, which has no mark, from the ranks where it stands.
-fn spell_whole(work: &[u32], r: usize, result: &mut [u8]) -> usize {
+fn copy_rule(work: &[u32], r: usize, result: &mut [u8]) -> usize {
     let (place, length) = (at(work, PLACES + r) as usize, at(work, LENGTHS + r) as usize);
     copy(part(work, place, place + length), result);
     length
