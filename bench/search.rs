@@ -185,27 +185,45 @@ pub fn count(table: &[u32], pattern: &[u8], work: &mut [u32]) -> Answer {
     with_loaded(table, work, |work| done(count_loaded(pattern, work, table.len() / 2), 0))
 }
 
-/// Writes the occurrence at a place of the marked text.
-fn list_one(result: &mut [u32], place: usize) -> usize {
-    put(result, 0, if place == 0 { 0 } else { (place - 1) as u32 });
-    1
+/// Writes the occurrence at a place of the marked text as entry n. Answers where the next goes.
+fn list_one(result: &mut [u32], n: usize, place: usize) -> usize {
+    put(result, n, if place == 0 { 0 } else { (place - 1) as u32 });
+    n + 1
 }
 
-/// Writes the occurrences in rule r, whose string stands at a place: left half, join, right half. Answers how many there are.
-fn list_rule(work: &[u32], r: usize, place: usize, result: &mut [u32]) -> usize {
+/// The same for the occurrence that begins c symbols before a join, none if c is 0.
+fn list_cut(result: &mut [u32], n: usize, join: usize, c: usize) -> usize {
+    if c == 0 {
+        return n;
+    }
+    list_one(result, n, join - c)
+}
+
+/// The same for the occurrences in rule r, whose string stands at a place: left half and join, and so on down the right halves.
+fn list_rule(work: &[u32], r: usize, place: usize, result: &mut [u32], n: usize) -> usize {
+    let (mut rest, mut place, mut n) = (r, place, n);
+    while word(work, FOUND, rest) / 4096 != 0 {
+        let Some((u, v)) = halves(work, rest) else {
+            return list_one(result, n, place);
+        };
+        let (join, cut) = (place + word(work, LENGTHS, u), word(work, FOUND, rest) % 4096);
+        n = list_half(work, u, place, result, n);
+        n = list_cut(result, n, join, cut);
+        place = join;
+        rest = v;
+    }
+    n
+}
+
+/// The same for a left half: a call only for a pair that has occurrences.
+fn list_half(work: &[u32], r: usize, place: usize, result: &mut [u32], n: usize) -> usize {
     if word(work, FOUND, r) / 4096 == 0 {
-        return 0;
+        return n;
     }
-    let Some((u, v)) = halves(work, r) else {
-        return list_one(result, place);
-    };
-    let mut n = list_rule(work, u, place, result);
-    let join = place + word(work, LENGTHS, u);
-    let cut = word(work, FOUND, r) % 4096;
-    if cut != 0 {
-        n += list_one(unsafe { result.get_unchecked_mut(n..) }, join - cut);
+    if halves(work, r).is_none() {
+        return list_one(result, n, place);
     }
-    n + list_rule(work, v, join, unsafe { result.get_unchecked_mut(n..) })
+    list_rule(work, r, place, result, n)
 }
 
 /// The occurrences of a pattern in the text of a table.
@@ -220,7 +238,7 @@ pub fn locate(table: &[u32], pattern: &[u8], work: &mut [u32], result: &mut [u32
         if result.len() < n {
             return refused(9, n);
         }
-        list_rule(work, rules - 1, 0, result);
+        list_rule(work, rules - 1, 0, result, 0);
         done(n, 0)
     })
 }

@@ -1,13 +1,13 @@
 -- Positions in the drive, of occurrences in strings that stand in the marked text: those of two strings in a row (`drive-append`,
 -- `drive-behind`), at a join (`drive-cut`), and in the whole (`drive-marked`).
-use mathlib.Core.Path.{_≡_, refl, ap, ap₂}
+use mathlib.Core.Path.{_≡_, refl, sym, _∙_, ap, ap₂}
 use mathlib.Core.List.{List, [], _∷_, _++_, map, map-append}
 use Prim.Native.Nat.{ℕ, zero, suc, _+_, _-_, _≤_, _<_, min}
 use native.Mathlib.Omega.{arith}
 use lib.ListN.{length, set, length-map}
-use Rattle.definitions.specs.Words.{placed}
 use Rattle.joins.specs.Joining.{cutPlace}
-use Rattle.listing.specs.Listing.{inDrive}
+use Rattle.listing.specs.Listing.{inDrive, placedFrom}
+use Rattle.listing.proofs.Entries.{from-none, from-one}
 
 pub drive-length : (at : ℕ) (l : List ℕ) → length (inDrive at l) ≡ length l
 unfolding inDrive
@@ -44,16 +44,15 @@ drive-cut-one n (suc c) h =
     let e : n - suc c + 0 - 1 ≡ 0 + (n - suc c) - 1 = omega arith in
     ap (λ (k : ℕ). k ∷ []) e
 
-pub drive-cut-none : (n c : ℕ) (old : List ℕ) → c ≡ 0 → old ≡ placed (inDrive 0 (cutPlace n c)) old
-unfolding inDrive cutPlace placed
-drive-cut-none n c old e = rw e
+pub drive-cut-none : (m n c : ℕ) (old : List ℕ) → c ≡ 0 → old ≡ placedFrom m (inDrive 0 (cutPlace n c)) old
+unfolding inDrive cutPlace
+drive-cut-none m n c old e = rw e (sym (from-none m old))
 
-pub drive-one : (at : ℕ) (old : List ℕ) (x : ℕ) → 0 < length old → x ≡ at - 1 → set old 0 x ≡ placed (inDrive at (0 ∷ [])) old
-unfolding inDrive placed
-drive-one at [] x h e = absurd (omega arith)
-drive-one at (a ∷ old) x h e =
+pub drive-one : (at n : ℕ) (old : List ℕ) (x : ℕ) → n < length old → x ≡ at - 1 → set old n x ≡ placedFrom n (inDrive at (0 ∷ [])) old
+unfolding inDrive
+drive-one at n old x h e =
     let f : x ≡ at + 0 - 1 = omega arith in
-    ap (λ (k : ℕ). k ∷ old) f
+    from-one n old x h ∙ ap (λ (k : ℕ). placedFrom n (k ∷ []) old) f
 
 -- the mark stands first
 pub drive-marked : (l : List ℕ) → inDrive 0 (map suc l) ≡ l

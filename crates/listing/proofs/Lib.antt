@@ -1,2 +1,3 @@
 pub mod Drives
+pub mod Entries
 pub mod Listing

@@ -1,17 +1,17 @@
 -- Listing, rule by rule, once all are counted: nothing to list, one symbol, or the positions of a pair's left half, of the cut at its join, and of its
--- right half (`pair-listed`). What each part is listed from (`list-left`, `list-rest`, `rest-right`), and that what they leave, one behind the other, is
--- what the rule leaves (`list-both`, `rest-both`); and the whole (`root-done`).
+-- right half (`pair-listed`). Down the right halves what is listed so far and what the rest lists are all of the rule (`Remains`): at first (`all-remains`), from
+-- a pair to its right half (`right-remains`), and once nothing is left (`none-remains`); and the whole (`root-done`).
 use mathlib.Core.Path.{_≡_, refl, sym, _∙_, ap, ap₂}
 use mathlib.Core.Bool.{Bool, true, false, cond, _&&_}
 use mathlib.Core.List.{List, [], _∷_, _++_, map}
 use Prim.Native.Nat.{ℕ, _+_, _-_, _≤_, _<_, min}
 use native.Mathlib.Omega.{arith}
-use lib.ListN.{length, length-append, length-map, take, drop}
+use lib.ListN.{length, length-append, length-map}
 use lib.Dec.{eqb}
 use Rattle.definitions.specs.Words.{below, begins, placed}
 use Rattle.definitions.specs.Table.{rankOf, ruleString, ruleCount}
 use Rattle.definitions.specs.Occurrences.{occurrences}
-use Rattle.lists.specs.Lists.{empty, placed-none, placed-both}
+use Rattle.lists.specs.Lists.{empty}
 use Rattle.lyndon.specs.Stored.{rule-range}
 use Rattle.layout.specs.Layout.{lengthIn, countIn, joinCutIn, Readable}
 use Rattle.decoding.specs.declared.Rule.the-variants.{Symbol, Pair}
@@ -19,11 +19,12 @@ use Rattle.decoding.specs.Decoding.{ruleIn}
 use Rattle.state.specs.State.{Loaded}
 use Rattle.joins.specs.Joining.{cutPlace}
 use Rattle.search.specs.Found.{occursIn}
-use Rattle.listing.specs.Listing.{Finds, inDrive, tableFor, foundFor, Listable, Listed, RestListable, ListedRest}
+use Rattle.listing.specs.Listing.{Finds, inDrive, tableFor, foundFor, placedFrom, Listable, Listed}
 use Rattle.search.proofs.Standing.{PlacedHalves, placed-symbol, pair-stands, rule-stands}
 use Rattle.search.proofs.Counting.{pair-occurs, pair-counts}
 use Rattle.search.proofs.Starting.{root-occurs}
 use Rattle.listing.proofs.Drives.{drive-length, drive-append, drive-behind, drive-cut, drive-marked, drive-cut-size}
+use Rattle.listing.proofs.Entries.{from-start, from-none, from-both}
 
 -- a pattern fits into one symbol at its start alone
 one-place : (p : List ℕ) (a : ℕ) → 0 < length p → 1 ≤ length (occurrences p (a ∷ [])) → occurrences p (a ∷ []) ≡ 0 ∷ []
@@ -58,9 +59,9 @@ module _ (w : List ℕ) (h : Finds w) where
   rule-number r low = h .searched .found r low .number
 
   module _ (r : ℕ) (low : r < ruleCount (tableFor w h)) where
-    none-listed : (at : ℕ) (old : List ℕ) → countIn w r ≡ 0 → old ≡ placed (inDrive at (foundFor w h r)) old
-    none-listed at old l =
-        sym (ap (λ (x : List ℕ). placed x old) (empty (inDrive at (foundFor w h r)) (drive-length at (foundFor w h r) ∙ omega (arith, rule-number r low))) ∙ placed-none old)
+    none-listed : (at n : ℕ) (old : List ℕ) → countIn w r ≡ 0 → old ≡ placedFrom n (inDrive at (foundFor w h r)) old
+    none-listed at n old l =
+        sym (ap (λ (x : List ℕ). placedFrom n x old) (empty (inDrive at (foundFor w h r)) (drive-length at (foundFor w h r) ∙ omega (arith, rule-number r low))) ∙ from-none n old)
 
     symbol-listed : (a b : ℕ) → (countIn w r ≡ 0 → ⊥) → ruleIn w r ≡ Symbol a b → foundFor w h r ≡ 0 ∷ []
     unfolding foundFor occursIn
@@ -132,86 +133,92 @@ module _ (w : List ℕ) (h : Finds w) where
 
 -- ---- a rule
 
-module _ {w : List ℕ} {r at n : ℕ} (l : Listable w r at n) where
+module _ {w : List ℕ} {r at n entries : ℕ} (l : Listable w r at n entries) where
   pub lists-known : Readable w r
   lists-known = record { low = omega (arith, l .low, finds-range w (l .finds)); long = l .finds .searched .loaded .kept .long }
 
-  pub list-none : (old : List ℕ) → countIn w r ≡ 0 → Listed w r at 0 old old
-  list-none old k = record { number = omega arith; front = λ h low. none-listed w h r low at old k }
+  pub list-none : (old : List ℕ) → countIn w r ≡ 0 → Listed w r at n n old old
+  list-none old k = record { number = omega arith; front = λ h low. none-listed w h r low at n old k }
 
-  pub list-symbol : (a b m : ℕ) (old new : List ℕ) → (countIn w r ≡ 0 → ⊥) → ruleIn w r ≡ Symbol a b → m ≡ 1 → new ≡ placed (inDrive at (0 ∷ [])) old → Listed w r at m old new
+  pub list-symbol : (a b m : ℕ) (old new : List ℕ) → (countIn w r ≡ 0 → ⊥) → ruleIn w r ≡ Symbol a b → m ≡ n + 1 → new ≡ placedFrom n (inDrive at (0 ∷ [])) old → Listed w r at n m old new
   list-symbol a b m old new k s e f =
       record {
         number = omega (arith, rule-number w (l .finds) r (l .low), ap length (symbol-listed w (l .finds) r (l .low) a b k s));
-        front = λ h low. f ∙ ap (λ (x : List ℕ). placed (inDrive at x) old) (sym (symbol-listed w h r low a b k s));
+        front = λ h low. f ∙ ap (λ (x : List ℕ). placedFrom n (inDrive at x) old) (sym (symbol-listed w h r low a b k s));
       }
 
   module _ (u v : ℕ) (k : ruleIn w r ≡ Pair u v) where
     pub list-pair : PairLists w r u v
     list-pair = pair-lists w (l .finds) r (l .low) u v k
 
-    pub list-left : Listable w u at n
+    pub list-left : Listable w u at n entries
     list-left =
         let q = list-pair in
         record { finds = l .finds; low = omega (arith, q .left, l .low); inside = omega (arith, q .size, l .inside); room = omega (arith, q .number, l .room) }
 
-    pub list-rest : (c join m entries : ℕ) → c ≡ joinCutIn w r → join ≡ at + lengthIn w u → m ≡ countIn w u → entries ≡ n - m → RestListable w c v join entries
-    list-rest c join m entries d e f g =
-        let q = list-pair in
-        record {
-          finds = l .finds;
-          low = omega (arith, q .right, l .low);
-          inside = omega (arith, q .size, l .inside);
-          cut = omega (arith, q .cut);
-          room = omega (arith, q .number, l .room);
-        }
+-- ---- down the right halves
 
-    pub left-fits : (m : ℕ) → m ≡ countIn w u → m ≤ n
-    left-fits m e = omega (arith, list-pair .number, l .room)
+-- the slice holds `now`, and the rest, at `place`, is still to be listed behind n entries: what that leaves is what listing r behind n₀ entries of `old` leaves
+pub record Remains (w : List ℕ) (r at n₀ : ℕ) (old : List ℕ) (rest place n : ℕ) (now : List ℕ) : Type 0 where
+  pub listable : Listable w rest place n (length now)
+  pub falls : rest ≤ r
+  pub number : n + countIn w rest ≡ n₀ + countIn w r
+  pub size : length now ≡ length old
+  pub front : (h : Finds w) → r < ruleCount (tableFor w h) → placedFrom n (inDrive place (foundFor w h rest)) now ≡ placedFrom n₀ (inDrive at (foundFor w h r)) old
 
-    pub list-both : (c join m i : ℕ) (old mid new : List ℕ) → n ≡ length old → c ≡ joinCutIn w r → join ≡ at + lengthIn w u
-        → Listed w u at m old mid → ListedRest w c v join i (take (length mid - m) (drop m mid)) new
-        → Listed w r at (m + i) old (take m mid ++ (new ++ drop (length mid - m) (drop m mid)))
-    list-both c join m i old mid new s d f a b =
+pub all-remains : {w : List ℕ} {r at n : ℕ} (old : List ℕ) → Listable w r at n (length old) → Remains w r at n old r at n old
+all-remains old l = record { listable = l; falls = omega arith; number = refl; size = refl; front = λ h low. refl }
+
+module _ {w : List ℕ} {r at n₀ : ℕ} {old : List ℕ} {rest place n : ℕ} {now : List ℕ} (q : Remains w r at n₀ old rest place n now) where
+  pub none-remains : (m : ℕ) (new : List ℕ) → Listed w rest place n m now new → Listed w r at n₀ m old new
+  none-remains m new a =
+      record {
+        number = omega (arith, a .number, q .number);
+        front = λ h low. a .front h (omega (arith, q .falls)) ∙ q .front h low;
+      }
+
+  module _ (u v : ℕ) (k : ruleIn w rest ≡ Pair u v) (join c : ℕ) (e : join ≡ place + lengthIn w u) (d : c ≡ joinCutIn w rest) where
+    pair : PairLists w rest u v
+    pair = list-pair (q .listable) u v k
+
+    pub cut-fits : (m : ℕ) (mid : List ℕ) → length mid ≡ length now → Listed w u place n m now mid → (c ≤ join) × (join ≤ 2048) × (m + min 1 c ≤ length mid)
+    cut-fits m mid s a =
+        (omega (arith, pair .cut), omega (arith, pair .size, q .listable .inside), omega (arith, a .number, d, pair .number, q .listable .room))
+
+    pub right-remains : (m i : ℕ) (mid new : List ℕ) → length mid ≡ length now → length new ≡ length mid → Listed w u place n m now mid
+        → i ≡ m + min 1 c → new ≡ placedFrom m (inDrive 0 (cutPlace join c)) mid → Remains w r at n₀ old v join i new
+    right-remains m i mid new s l a g f =
         record {
-          number = omega (arith, a .number, b .number, d, list-pair .number);
-          front = both;
+          listable =
+              record {
+                finds = q .listable .finds;
+                low = omega (arith, pair .right, q .listable .low);
+                inside = omega (arith, pair .size, q .listable .inside);
+                room = omega (arith, a .number, d, pair .number, q .listable .room);
+              };
+          falls = omega (arith, pair .right, q .falls);
+          number = omega (arith, a .number, d, pair .number, q .number);
+          size = l ∙ s ∙ q .size;
+          front = behind;
         }
       where
-        both : (h : Finds w) → r < ruleCount (tableFor w h)
-            → take m mid ++ (new ++ drop (length mid - m) (drop m mid)) ≡ placed (inDrive at (foundFor w h r)) old
-        both h low =
-            let q = list-pair in
-            let x = inDrive at (foundFor w h u) in
-            let y = inDrive 0 (cutPlace join c) ++ inDrive join (foundFor w h v) in
-            let whole : inDrive at (foundFor w h r) ≡ x ++ y =
-            pair-listed w h r low u v k at join f ∙ ap (λ (j : ℕ). x ++ (inDrive 0 (cutPlace join j) ++ inDrive join (foundFor w h v))) (sym d) in
-            let size : m ≡ length x = a .number ∙ rule-number w h u (omega (arith, q .left)) ∙ sym (drive-length at (foundFor w h u)) in
-            placed-both x y old mid new m size
-            (omega (arith, drive-length at (foundFor w h r), ap length whole, length-append x y, rule-number w h r low, l .room))
-            (a .front h (omega (arith, q .left)))
-            (b .front h (omega (arith, q .right)))
-            ∙ ap (λ (z : List ℕ). placed z old) (sym whole)
-
--- ---- the join and the right half
-
-module _ {w : List ℕ} {c v join n : ℕ} (l : RestListable w c v join n) where
-  pub rest-right : (m entries : ℕ) → m ≡ min 1 c → entries ≡ n - m → Listable w v join entries
-  rest-right m entries f g = record { finds = l .finds; low = l .low; inside = l .inside; room = omega (arith, l .room) }
-
-  pub rest-both : (m i : ℕ) (old mid new : List ℕ) → n ≡ length old → m ≡ min 1 c
-      → mid ≡ placed (inDrive 0 (cutPlace join c)) old → Listed w v join i (take (length mid - m) (drop m mid)) new
-      → ListedRest w c v join (m + i) old (take m mid ++ (new ++ drop (length mid - m) (drop m mid)))
-  rest-both m i old mid new s g a b =
-      record {
-        number = omega (arith, g, b .number);
-        front = λ h low.
-            placed-both (inDrive 0 (cutPlace join c)) (inDrive join (foundFor w h v)) old mid new m
-            (g ∙ sym (drive-cut-size join c))
-            (omega (arith, drive-cut-size join c, drive-length join (foundFor w h v), rule-number w h v low, l .room))
-            a
-            (b .front h low);
-      }
+        behind : (h : Finds w) → r < ruleCount (tableFor w h) → placedFrom i (inDrive join (foundFor w h v)) new ≡ placedFrom n₀ (inDrive at (foundFor w h r)) old
+        behind h low =
+            let x = inDrive place (foundFor w h u) in
+            let y = inDrive 0 (cutPlace join c) in
+            let z = inDrive join (foundFor w h v) in
+            let rest-low : rest < ruleCount (tableFor w h) = omega (arith, q .falls) in
+            let left-low : u < ruleCount (tableFor w h) = omega (arith, pair .left) in
+            let whole : inDrive place (foundFor w h rest) ≡ x ++ (y ++ z) =
+            pair-listed w h rest rest-low u v k place join e ∙ ap (λ (j : ℕ). x ++ (inDrive 0 (cutPlace join j) ++ z)) (sym d) in
+            let left : length x ≡ countIn w u = drive-length place (foundFor w h u) ∙ sym (rule-number w h u left-low) in
+            let across : length y ≡ min 1 c = drive-cut-size join c in
+            ap (placedFrom i z) f
+            ∙ from-both m y mid (omega (arith, cut-fits m mid s a .2)) z i (omega arith)
+            ∙ ap (placedFrom m (y ++ z)) (a .front h left-low)
+            ∙ from-both n x now (omega (arith, pair .number, q .listable .room)) (y ++ z) m (omega (arith, a .number))
+            ∙ ap (λ (p : List ℕ). placedFrom n p now) (sym whole)
+            ∙ q .front h low
 
 -- ---- the whole
 
@@ -225,7 +232,7 @@ module _ {w : List ℕ} (h : Finds w) (rules : ℕ) (e : rules ≡ ruleCount (ta
   pub root-some : 0 < rules
   root-some = omega (arith, finds-range w h)
 
-  pub root-lists : (n : ℕ) → length (occurrences (h .pattern) (h .text)) ≤ n → Listable w (rules - 1) 0 n
+  pub root-lists : (n : ℕ) → length (occurrences (h .pattern) (h .text)) ≤ n → Listable w (rules - 1) 0 0 n
   root-lists n k =
       record {
         finds = h;
@@ -234,9 +241,9 @@ module _ {w : List ℕ} (h : Finds w) (rules : ℕ) (e : rules ≡ ruleCount (ta
         room = omega (arith, root-number);
       }
 
-  pub root-done : (m : ℕ) (old new : List ℕ) → Listed w (rules - 1) 0 m old new
+  pub root-done : (m : ℕ) (old new : List ℕ) → Listed w (rules - 1) 0 0 m old new
       → (m ≡ length (occurrences (h .pattern) (h .text))) × (new ≡ placed (occurrences (h .pattern) (h .text)) old)
   root-done m old new l = (
-    l .number ∙ root-number,
-    l .front h root-low ∙ ap (λ (x : List ℕ). placed x old) (root-listed w h rules e),
+    omega (arith, l .number, root-number),
+    l .front h root-low ∙ from-start (inDrive 0 (foundFor w h (rules - 1))) old ∙ ap (λ (x : List ℕ). placed x old) (root-listed w h rules e),
   )

@@ -1,5 +1,6 @@
 // The occurrences of a pattern that are counted, listed by the rules of the table from the root down: in a pair rule those of its left
-// half, the one at its join, those of its right half.
+// half, the one at its join, those of its right half. A loop goes down the right halves; a left half is a call where it is a pair with
+// occurrences.
 use decoding::Rule;
 use decoding::rule_in;
 use joins::areas::cut_of;
@@ -7,65 +8,78 @@ use joins::areas::length_of;
 use joins::areas::number_of;
 ghost use mathlib.Core.Path.{_≡_};
 ghost use mathlib.Core.List.{[], _∷_};
-ghost use Prim.Native.Nat.{_-_, _≤_, _<_, min};
+ghost use Prim.Native.Nat.{_+_, _-_, _≤_, _<_, min};
 ghost use lib.ListN.{length};
 ghost use Rattle.definitions.specs.Words.{placed};
 ghost use Rattle.definitions.specs.Occurrences.{occurrences};
 ghost use Rattle.joins.specs.Joining.{cutPlace};
-ghost use Rattle.listing.specs.Listing.{Finds, inDrive, Listable, Listed, RestListable, ListedRest, rulesCounted};
+ghost use Rattle.listing.specs.Listing.{Finds, inDrive, placedFrom, Listable, Listed, rulesCounted};
 
 // Writes the positions at which the pattern begins in the drive, rising, at the front of a slice. Answers how many there are.
 pub fn list(work: &[u32], rules: usize, result: &mut [u32]) -> usize
     requires { ⌜ ((h : Finds (now work)) × (rules ≡ rulesCounted h) × (length (occurrences (h .pattern) (h .text)) ≤ length (now result))) ⌝ }
     ensures { λ n. ⌜ ((h : Finds (now (work .entry))) → rules ≡ rulesCounted h → (n ≡ length (occurrences (h .pattern) (h .text))) × (now (result .exit) ≡ placed (occurrences (h .pattern) (h .text)) (now (result .entry)))) ⌝ }
 {
-    list_rule(work, rules - 1, 0, result)
+    list_rule(work, rules - 1, 0, result, 0)
 }
 
-// The same for the occurrences in rule r, whose string stands at `at` in the marked text: those in the left half, then the rest.
-fn list_rule(work: &[u32], r: usize, at: usize, result: &mut [u32]) -> usize
-    requires { ⌜ Listable (now work) r at (length (now result)) ⌝ }
-    ensures { λ n. ⌜ Listed (now (work .entry)) r at n (now (result .entry)) (now (result .exit)) ⌝ }
+// The same for the occurrences in rule r, whose string stands at `at` in the marked text, behind the entries that are written: those of its left half and the
+// one at its join, then the rest, which is its right half. Answers how many entries are written then.
+fn list_rule(work: &[u32], r: usize, at: usize, result: &mut [u32], written: usize) -> usize
+    requires { ⌜ Listable (now work) r at written (length (now result)) ⌝ }
+    ensures { λ n. ⌜ Listed (now (work .entry)) r at written n (now (result .entry)) (now (result .exit)) ⌝ }
+{
+    let mut n = written;
+    let mut rest = r;
+    let mut place = at;
+    while 0 < number_of(work, rest) {
+        let rule = rule_in(work, rest);
+        let Rule::Pair(u, v) = rule else {
+            return list_one(result, n, place);
+        };
+        let join = place + length_of(work, u);
+        let c = cut_of(work, rest);
+        let m = list_half(work, u, place, result, n);
+        n = list_cut(result, m, join, c);
+        place = join;
+        rest = v;
+    }
+    n
+}
+
+// The same, with no call where the rule has no occurrence or is a symbol.
+fn list_half(work: &[u32], r: usize, at: usize, result: &mut [u32], n: usize) -> usize
+    requires { ⌜ Listable (now work) r at n (length (now result)) ⌝ }
+    ensures { λ m. ⌜ Listed (now (work .entry)) r at n m (now (result .entry)) (now (result .exit)) ⌝ }
 {
     if number_of(work, r) == 0 {
-        return 0;
+        return n;
     }
     let rule = rule_in(work, r);
-    let Rule::Pair(u, v) = rule else {
-        return list_one(result, at);
+    let Rule::Pair(_, _) = rule else {
+        return list_one(result, n, at);
     };
-    let join = at + length_of(work, u);
-    let n = list_rule(work, u, at, result);
-    n + list_rest(work, cut_of(work, r), v, join, &mut result[n..])
-}
-
-// The same for the occurrence that is cut at c at a join, then those in its right half v. The join stands at `join` in the marked text.
-fn list_rest(work: &[u32], c: usize, v: usize, join: usize, result: &mut [u32]) -> usize
-    requires { ⌜ RestListable (now work) c v join (length (now result)) ⌝ }
-    ensures { λ n. ⌜ ListedRest (now (work .entry)) c v join n (now (result .entry)) (now (result .exit)) ⌝ }
-{
-    let n = list_cut(result, join, c);
-    n + list_rule(work, v, join, &mut result[n..])
+    list_rule(work, r, at, result, n)
 }
 
 // The same for the occurrence that begins c symbols before a join, none if c is 0.
-fn list_cut(result: &mut [u32], join: usize, c: usize) -> usize
-    requires { ⌜ (c ≤ join) × (join ≤ 2048) × (min 1 c ≤ length (now result)) ⌝ }
-    ensures { λ n. ⌜ (n ≡ min 1 c) × (now (result .exit) ≡ placed (inDrive 0 (cutPlace join c)) (now (result .entry))) ⌝ }
+fn list_cut(result: &mut [u32], n: usize, join: usize, c: usize) -> usize
+    requires { ⌜ (c ≤ join) × (join ≤ 2048) × (n + min 1 c ≤ length (now result)) ⌝ }
+    ensures { λ m. ⌜ (m ≡ n + min 1 c) × (now (result .exit) ≡ placedFrom n (inDrive 0 (cutPlace join c)) (now (result .entry))) ⌝ }
 {
     if c == 0 {
-        return 0;
+        return n;
     }
-    list_one(result, join - c)
+    list_one(result, n, join - c)
 }
 
 // The same for one occurrence, at a place of the marked text: the drive begins behind the mark.
-fn list_one(result: &mut [u32], place: usize) -> usize
-    requires { ⌜ (place ≤ 2048) × (0 < length (now result)) ⌝ }
-    ensures { λ n. ⌜ (n ≡ 1) × (now (result .exit) ≡ placed (inDrive place (0 ∷ [])) (now (result .entry))) ⌝ }
+fn list_one(result: &mut [u32], n: usize, place: usize) -> usize
+    requires { ⌜ (place ≤ 2048) × (n < length (now result)) ⌝ }
+    ensures { λ m. ⌜ (m ≡ n + 1) × (now (result .exit) ≡ placedFrom n (inDrive place (0 ∷ [])) (now (result .entry))) ⌝ }
 {
-    result[0] = behind_mark(place);
-    1
+    result[n] = behind_mark(place);
+    n + 1
 }
 
 // The position in the drive of a place of the marked text.
