@@ -14,8 +14,8 @@ use Rattle.definitions.specs.Table.{rankOf}
 use Rattle.definitions.specs.Occurrences.{isLive, liveCuts, patternCuts}
 use Rattle.lists.specs.Numbers.{split-lt}
 use Rattle.cuts.specs.Flags.{flagsOf, patternFlags, raised}
-use Rattle.cuts.specs.Runs.{atEnd, Moved}
-use Rattle.cuts.proofs.Samples.{moved-one, moved-none}
+use Rattle.runs.specs.Runs.{atEnd, Moved}
+use Rattle.runs.proofs.Samples.{moved-one, moved-none}
 use Rattle.cuts.proofs.Lists.{passed, none-passed}
 
 flags-length : (f : ℕ → Bool) (n : ℕ) → length (flagsOf f n) ≡ n

@@ -1,7 +1,2 @@
-pub mod Differences
-pub mod Runs
-pub mod Starts
-pub mod Scan
-pub mod Samples
 pub mod Lists
 pub mod Flags

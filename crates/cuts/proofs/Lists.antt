@@ -15,9 +15,9 @@ use Rattle.definitions.specs.Occurrences.{isLive, liveCuts, patternCuts}
 use Rattle.lists.specs.Bools.{and-left}
 use Rattle.lists.specs.Numbers.{below-append, below-length}
 use Rattle.lists.specs.Lists.{placed-none, placed-more}
-use Rattle.cuts.specs.Runs.{atEnd, Reached, Moved}
-use Rattle.cuts.proofs.Scan.{none-before, scan-done}
-use Rattle.cuts.proofs.Samples.{samples-left, moved-one, moved-none}
+use Rattle.runs.specs.Runs.{atEnd, Reached, Moved}
+use Rattle.runs.proofs.Scan.{none-before, scan-done}
+use Rattle.runs.proofs.Samples.{samples-left, moved-one, moved-none}
 
 -- the live cuts below a place
 abbrev pub passed : Order → List ℕ → ℕ → List ℕ

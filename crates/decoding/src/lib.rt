@@ -8,6 +8,8 @@ use slices::wide;
 ghost use mathlib.Core.Path.{_≡_};
 ghost use Prim.Native.Nat.{_+_, _*_, _<_};
 ghost use lib.ListN.{length};
+ghost use Rattle.definitions.specs.Table.{chairOf};
+ghost use Rattle.lyndon.specs.Shapes.{Shaped};
 ghost use Rattle.layout.specs.Layout.{Readable};
 ghost use Rattle.decoding.specs.Decoding.{ruleAt, ruleIn};
 
@@ -36,4 +38,16 @@ pub fn rule_in(work: &[u32], r: usize) -> Rule
     ensures { λ x. ⌜ x ≡ ruleIn (now (work .entry)) r ⌝ }
 {
     rule_of(&work[TABLE..TABLE_END], r)
+}
+
+// The chair number of a table: it stands beside the symbol of rule 0.
+pub fn chair_of(table: &[u32]) -> u16
+    requires { ⌜ Shaped (now table) ⌝ }
+    ensures { λ r. ⌜ r ≡ chairOf (now (table .entry)) ⌝ }
+{
+    let rule = rule_of(table, 0);
+    match rule {
+        Rule::Symbol(_, beside) => beside as u16,
+        Rule::Pair(_, _) => 0,
+    }
 }

@@ -1,4 +1,5 @@
 // Results written to the front of the result slice, or refused by 8 or 9: words, and the text that is loaded or a part of it.
+use decoding::chair_of;
 use definitions::Answer;
 use definitions::Order;
 use definitions::ReadAnswer;
@@ -6,7 +7,6 @@ use layout::TABLE;
 use results::range_fits;
 use results::result_fits;
 use results::with_chair;
-use tables::chair_of;
 ghost use mathlib.Core.Path.{_≡_};
 ghost use mathlib.Core.List.{[], _∷_};
 ghost use lib.ListN.{length, take, drop};

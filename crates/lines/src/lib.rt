@@ -1,12 +1,13 @@
 // Lines of text gathered in a lent slice: each function writes at the front of `out`, leaves the rest and answers how many bytes it wrote, so
-// that the caller lends on the rest. A number takes at most ten digits.
+// that the caller lends on the rest.
+use decimals::put_decimal_line;
 use definitions::Answer;
 use slices::wide;
 ghost use mathlib.Core.Path.{_≡_};
 ghost use Prim.Native.Nat.{_+_, _*_, _≤_};
 ghost use lib.ListN.{length};
 ghost use Rattle.definitions.specs.Words.{placed};
-ghost use Rattle.definitions.specs.Programs.{digits, digitCount, decimal, line, named, decimalLines};
+ghost use Rattle.definitions.specs.Programs.{named, decimalLines};
 ghost use Rattle.lines.specs.Lines.{refusal};
 
 // Numbers, each on a line.
@@ -59,46 +60,4 @@ fn put_bytes(bytes: &[u8], out: &mut [u8]) -> usize
         i += 1;
     }
     i
-}
-
-// A number on a line.
-fn put_decimal_line(number: usize, out: &mut [u8]) -> usize
-    requires { ⌜ 11 ≤ length (now out) ⌝ }
-    ensures { λ n. ⌜ n ≡ length (line (decimal number)) ⌝ }
-    ensures { λ _. ⌜ now (out .exit) ≡ placed (line (decimal number)) (now (out .entry)) ⌝ }
-{
-    let n = digit_count(number);
-    put_digits(number, n, out);
-    out[n] = 10;
-    n + 1
-}
-
-// How many digits a number has, ten at most.
-fn digit_count(number: usize) -> usize
-    ensures { λ n. ⌜ n ≡ digitCount number ⌝ }
-{
-    let mut rest = number;
-    let mut n = 1;
-    while n < 10 {
-        if rest < 10 {
-            return n;
-        }
-        rest = rest / 10;
-        n += 1;
-    }
-    n
-}
-
-// The last digits of a number, as many as `count` says: the last is written first.
-fn put_digits(number: usize, count: usize, out: &mut [u8])
-    requires { ⌜ count ≤ length (now out) ⌝ }
-    ensures { λ _. ⌜ now (out .exit) ≡ placed (digits count number) (now (out .entry)) ⌝ }
-{
-    let mut rest = number;
-    let mut i = count;
-    while 0 < i {
-        i -= 1;
-        out[i] = 48 + (rest % 10) as u8;
-        rest = rest / 10;
-    }
 }

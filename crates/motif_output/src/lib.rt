@@ -3,14 +3,16 @@ use definitions::Answer;
 use lines::put_decimal_lines;
 use lines::put_named;
 use lines::put_refusal;
+use motif_input::drive_start;
+use motif_input::input_fits;
+use motif_input::motif_length;
 ghost use mathlib.Core.Path.{_≡_};
 ghost use mathlib.Core.List.{[], _∷_, _++_};
 ghost use Prim.Native.Nat.{_+_, _*_, _≤_};
-ghost use lib.ListN.{length, drop};
+ghost use lib.ListN.{length};
 ghost use Rattle.definitions.specs.Words.{placed};
 ghost use Rattle.definitions.specs.Services.{Serves, Answers, sampleOrder};
-ghost use Rattle.definitions.specs.Programs.{named, motifOf, driveOf, inputTooLong, rulesName, foundLines, motifOutput};
-ghost use Rattle.lists.specs.Decisions.{checked};
+ghost use Rattle.definitions.specs.Programs.{named, rulesName, foundLines, motifOutput};
 ghost use Rattle.motif_output.specs.Steps.{driveStep, motifStep, Built, searchOutput};
 
 // Writes what the program prints at the front of `out`, and answers how many bytes that is.
@@ -55,17 +57,6 @@ fn build_drive(input: &[u8], table: &mut [u32]) -> Answer
     index::build(&input[from..], 0, &mut work, table)
 }
 
-// Refusal 1 of an input, or its length.
-fn input_fits(input: &[u8]) -> Answer
-    ensures { λ r. ⌜ r ≡ checked (inputTooLong (now (input .entry))) (length (now (input .entry))) ⌝ }
-{
-    if 4095 < input.len() {
-        Answer::Refused(1, 0)
-    } else {
-        Answer::Done(input.len())
-    }
-}
-
 // Lists where the motif begins in the drive, whose table is handed over. Refuses by 2 and 3.
 fn locate_motif<'a>(input: &'a [u8], table: &'a [u32], positions: &mut [u32]) -> Answer
     requires { ⌜ Built (now input) (now table) × (2047 ≤ length (now positions)) ⌝ }
@@ -75,31 +66,6 @@ fn locate_motif<'a>(input: &'a [u8], table: &'a [u32], positions: &mut [u32]) ->
     let mut work = [0u32; 16384];
     let found = index::locate(table, &input[0..end], &mut work, positions);
     found.answer
-}
-
-// Where the drive begins: behind the first byte 10, at the end where there is none.
-fn drive_start(input: &[u8]) -> usize
-    ensures { λ n. ⌜ (n ≤ length (now (input .entry))) × (drop n (now (input .entry)) ≡ driveOf (now (input .entry))) ⌝ }
-{
-    let n = motif_length(input);
-    if n < input.len() {
-        return n + 1;
-    }
-    n
-}
-
-// How many bytes stand before the first byte 10: all where there is none.
-fn motif_length(input: &[u8]) -> usize
-    ensures { λ n. ⌜ n ≡ length (motifOf (now (input .entry))) ⌝ }
-{
-    let mut i = 0;
-    while i < input.len() {
-        if input[i] == 10 {
-            return i;
-        }
-        i += 1;
-    }
-    i
 }
 
 // The lines of success: how many rules there are, and the positions.

@@ -2,8 +2,6 @@
 //
 // No two rules are alike; no rule's string is too long; the root meets all rules in their order; the halves of each are in order where the rule is written; and
 // the root spells the mark and then samples. So the table is the one of those samples, and of no others.
-use decoding::Rule;
-use decoding::rule_of;
 use definitions::Answer;
 use definitions::Order;
 use entries::enter_all;
@@ -18,7 +16,6 @@ ghost use mathlib.Core.Path.{_≡_};
 ghost use mathlib.Core.Bool.{true, false};
 ghost use Prim.Native.Nat.{_≤_, _<_};
 ghost use lib.ListN.{length};
-ghost use Rattle.definitions.specs.Table.{chairOf};
 ghost use Rattle.lyndon.specs.Shapes.{Shaped};
 ghost use Rattle.layout.specs.Layout.{WORK};
 ghost use Rattle.twins.specs.Twins.{Distinct};
@@ -79,16 +76,4 @@ fn is_marked(work: &[u32], n: usize) -> bool
         i += 1;
     }
     alone
-}
-
-// The chair number of a table: it stands beside the symbol of rule 0.
-pub fn chair_of(table: &[u32]) -> u16
-    requires { ⌜ Shaped (now table) ⌝ }
-    ensures { λ r. ⌜ r ≡ chairOf (now (table .entry)) ⌝ }
-{
-    let rule = rule_of(table, 0);
-    match rule {
-        Rule::Symbol(_, beside) => beside as u16,
-        Rule::Pair(_, _) => 0,
-    }
 }

@@ -5,9 +5,9 @@ use mathlib.Core.Logic.{⊎-elim}
 use native.Mathlib.Omega.{arith}
 use lib.ListN.{length}
 use Rattle.definitions.specs.Table.{rankOf}
-use Rattle.cuts.specs.Runs.{ahead, Reached}
-use Rattle.cuts.proofs.Scan.{scan-start}
-use Rattle.cuts.proofs.Samples.{moved-less}
+use Rattle.runs.specs.Runs.{ahead, Reached}
+use Rattle.runs.proofs.Scan.{scan-start}
+use Rattle.runs.proofs.Samples.{moved-less}
 use Rattle.cuts.proofs.Lists.{passed, passed-length, all-passed, counted-start, counted-one, counted-none}
 use Rattle.cuts.proofs.count.Statement.{statement}
 use Rattle.cuts.proofs.count.Tie as tie

@@ -6,9 +6,9 @@ use native.Mathlib.Omega.{arith}
 use lib.ListN.{length}
 use Rattle.definitions.specs.Table.{rankOf}
 use Rattle.cuts.specs.Flags.{raised}
-use Rattle.cuts.specs.Runs.{ahead, Reached}
-use Rattle.cuts.proofs.Scan.{scan-start}
-use Rattle.cuts.proofs.Samples.{moved-less}
+use Rattle.runs.specs.Runs.{ahead, Reached}
+use Rattle.runs.proofs.Scan.{scan-start}
+use Rattle.runs.proofs.Samples.{moved-less}
 use Rattle.cuts.proofs.Lists.{passed, all-passed}
 use Rattle.cuts.proofs.Flags.{raised-start, raised-next}
 use Rattle.cuts.proofs.raise.Statement.{statement}

@@ -7,7 +7,8 @@ use lib.ListN.{length, take, length-take, length-drop}
 use lib.Seq.{take-length}
 use Rattle.definitions.specs.Words.{placed}
 use Rattle.definitions.specs.Programs.{decimalLines}
-use Rattle.lines.proofs.Lines.{front-most, line-most, lines-none, lines-stored}
+use Rattle.decimals.proofs.Digits.{line-most}
+use Rattle.lines.proofs.Lines.{front-most, lines-none, lines-stored}
 use Rattle.lines.proofs.put_decimal_lines.Statement.{statement}
 use Rattle.lines.proofs.put_decimal_lines.Tie as tie
 

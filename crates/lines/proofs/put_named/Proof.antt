@@ -1,7 +1,8 @@
 -- `put_named` writes a name, and in the rest of the slice the line of a number.
 use native.Mathlib.Omega.{arith}
 use borrow.Author.Needs.{needs}
-use Rattle.lines.proofs.Lines.{line-most, named-stored}
+use Rattle.decimals.proofs.Digits.{line-most}
+use Rattle.lines.proofs.Lines.{named-stored}
 use Rattle.lines.proofs.put_named.Statement.{statement}
 use Rattle.lines.proofs.put_named.Tie as tie
 

@@ -9,7 +9,7 @@ use borrow.Author.Tests.{ltb-false}
 use Rattle.definitions.specs.Services.{sampleOrder}
 use Rattle.definitions.specs.Programs.{inputTooLong}
 use Rattle.lists.specs.Decisions.{done-met}
-use Rattle.motif_output.proofs.Splitting.{drive-bytes}
+use Rattle.motif_input.proofs.Splitting.{drive-bytes}
 use Rattle.motif_output.proofs.Stepping.{drive-long, drive-built}
 use Rattle.motif_output.proofs.build_drive.Statement.{statement}
 use Rattle.motif_output.proofs.build_drive.Tie as tie

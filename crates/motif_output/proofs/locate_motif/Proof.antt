@@ -5,7 +5,7 @@ use lib.ListN.{take}
 use borrow.Author.Needs.{needs}
 use Rattle.definitions.specs.Services.{searchOutcome, sampleOrder}
 use Rattle.definitions.specs.Programs.{driveOf}
-use Rattle.motif_output.proofs.Splitting.{motif-taken, motif-fits, drive-bytes}
+use Rattle.motif_input.proofs.Splitting.{motif-taken, motif-fits, drive-bytes}
 use Rattle.motif_output.proofs.Stepping.{stored, motif-located}
 use Rattle.motif_output.proofs.locate_motif.Statement.{statement}
 use Rattle.motif_output.proofs.locate_motif.Tie as tie

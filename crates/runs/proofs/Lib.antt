@@ -1,0 +1,5 @@
+pub mod Differences
+pub mod Runs
+pub mod Starts
+pub mod Scan
+pub mod Samples
