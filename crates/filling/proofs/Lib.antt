@@ -1,4 +1,3 @@
 pub mod Copies
 pub mod Areas
-pub mod Orders
 pub mod Rules

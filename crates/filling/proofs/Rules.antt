@@ -22,7 +22,8 @@ use Rattle.layout.specs.Layout.{PLACES, lengthIn, placeIn}
 use Rattle.lengths.proofs.Sizes.{rules-few}
 use Rattle.entries.specs.Entries.{Placed}
 use Rattle.entries.proofs.Steps.{spelled-short}
-use Rattle.filling.specs.Filling.{copied, Copyable, Written, Filling}
+use Rattle.halves.specs.Halves.{Written}
+use Rattle.filling.specs.Filling.{copied, Copyable, Filling}
 use Rattle.filling.proofs.Areas.{Behind, behind-set, behind-both, placed-same, Copied, rule-copied}
 
 -- no rule is written yet

@@ -1,13 +1,12 @@
--- From a marked text to its table: with the ends of its Lyndon words known, its rules can be numbered (`ended-numbers`), with
--- cleared buckets too (`cleared-numbers`); and with the chair number stored beside the mark they are its table (`tabled`).
+-- From a marked text to its table: with the ends of its Lyndon words known, its rules can be numbered (`ended-numbers`), and with the chair number
+-- stored beside the mark they are its table (`tabled`).
 use mathlib.Core.Path.{_≡_, refl, sym, _∙_, ap, ap₂, subst}
-use mathlib.Core.List.{List, [], _∷_, _++_}
+use mathlib.Core.List.{List, [], _∷_}
 use Prim.Native.Nat.{ℕ, _+_, _*_, _≤_, _<_}
 use native.Mathlib.Omega.{arith}
 use native.Mathlib.Nat.{zero-add, sub-zero}
 use native.Mathlib.Numerals.{add-one}
-use lib.ListN.{length, take, drop, getD, set, replicate, length-take, length-drop, length-replicate, length-set, getD-replicate, List·getD-append}
-use lib.Seq.{getD-append-add, length-take-le}
+use lib.ListN.{length, take, getD, set, length-set}
 use Rattle.definitions.specs.declared.Order.{Order}
 use Rattle.definitions.specs.Grammar.{order, Rule, symbol, rulesOf}
 use Rattle.definitions.specs.Table.{marked, words, wordOf, tableOf}
@@ -15,7 +14,7 @@ use Rattle.definitions.specs.Words.{placed}
 use Rattle.lists.specs.Lists.{placed-length, placed-front}
 use Rattle.lists.specs.Numbers.{split-le}
 use Rattle.lists.specs.Members.{at-in}
-use Rattle.lists.specs.Parts.{part, part-length, part-at, part-set, part-set-behind, part-agree, lent-length, lent-before}
+use Rattle.lists.specs.Parts.{part, part-length, part-at, part-set, part-set-behind, part-agree}
 use Rattle.lyndon.specs.Forest.{forest, longests}
 use Rattle.lyndon.specs.Ranks.{slice-bytes, marked-lyndon, marked-symbols, marked-length}
 use Rattle.lyndon.specs.Sequence.{order-filled}
@@ -23,63 +22,11 @@ use Rattle.lyndon.specs.Rules.{rulesFor, rules-length, rule-at, rule-symbol}
 use Rattle.lyndon.specs.Encoding.{firstWord, secondWord, words-cons}
 use Rattle.lyndon.specs.Closings.{start, run, closingsOf, Enough, forest-enough, run-rules}
 use Rattle.lyndon.specs.Stored.{Stored, storable, order-most, table-words, table-length}
-use Rattle.layout.specs.Layout.{LONGEST, CLOSINGS, STACK, LINKS, TABLE, CHAIR, WORK, BESIDE_SYMBOL}
+use Rattle.layout.specs.Layout.{LONGEST, CLOSINGS, STACK, TABLE, CHAIR, WORK, BESIDE_SYMBOL}
 use Rattle.ends.specs.Areas.{Ended}
 use Rattle.stack.specs.Areas.{Rules, Below}
-use Rattle.grammar.specs.Numbering.{numbered, Numberable}
+use Rattle.numbering.specs.Numbering.{numbered, Numberable}
 use Rattle.grammar.specs.Built.{Marked, Built}
-use Rattle.grammar.proofs.Stepping.{below-at}
-
--- ---- cleared buckets
-
--- the slice w with 1,024 words from LINKS on replaced, the buckets
-abbrev replaced : List ℕ → List ℕ → List ℕ
-replaced w l = take LINKS w ++ (l ++ drop 1024 (drop LINKS w))
-
-module _ (w l : List ℕ) (long : WORK ≤ length w) (e : l ≡ replicate (length (take 1024 (drop LINKS w))) 0) where
-  size : length (take 1024 (drop LINKS w)) ≡ 1024
-  size = simp (length-take, length-drop) (omega arith)
-
-  front : length (take LINKS w) ≡ LINKS
-  front = length-take-le LINKS w (omega arith)
-
-  zeros : l ≡ replicate 1024 0
-  zeros = e ∙ ap (λ (n : ℕ). replicate n 0) size
-
-  count : length l ≡ 1024
-  count = ap length zeros ∙ length-replicate {A = ℕ} 1024 0
-
-  cleared-below : take LINKS (take LINKS w ++ (l ++ drop 1024 (drop LINKS w))) ≡ take LINKS w
-  cleared-below = lent-before w l LINKS 1024 (omega arith) count LINKS (omega arith)
-
-  pub cleared-stays : Below w (take LINKS w ++ (l ++ drop 1024 (drop LINKS w)))
-  cleared-stays = lent-before w l LINKS 1024 (omega arith) count STACK (omega arith)
-
-  pub cleared-buckets : (b : ℕ) → b < 1024 → getD (take LINKS w ++ (l ++ drop 1024 (drop LINKS w))) (LINKS + b) 0 ≡ 0
-  cleared-buckets b h =
-      ap (λ (n : ℕ). getD (replaced w l) (n + b) 0) (sym front)
-      ∙ getD-append-add (take LINKS w) (l ++ drop 1024 (drop LINKS w)) b 0
-      ∙ List·getD-append l (drop 1024 (drop LINKS w)) 0 b (omega (arith, count))
-      ∙ ap (λ (x : List ℕ). getD x b 0) zeros
-      ∙ getD-replicate 1024 b 0 0 h
-
-  -- what is numbered lies below
-  pub cleared-numbered : (n : ℕ) → n ≤ 2048 → numbered n (take LINKS w ++ (l ++ drop 1024 (drop LINKS w))) ≡ numbered n w
-  unfolding numbered
-  cleared-numbered n h =
-      ap₂ {C = List Rule} (λ x y. run start x y .rules)
-      (part-agree LINKS 0 n w (replaced w l) cleared-below (omega arith))
-      (part-agree LINKS CLOSINGS n w (replaced w l) cleared-below (omega arith))
-
-  pub cleared-numbers : (n : ℕ) → Numberable n w → Numberable n (take LINKS w ++ (l ++ drop 1024 (drop LINKS w)))
-  cleared-numbers n k =
-      record {
-        short = k .short;
-        long = omega (arith, lent-length w l LINKS 1024 (omega arith) count);
-        ranks = λ i h. rw (below-at w (replaced w l) i (omega (arith, k .short)) cleared-stays) (k .ranks i h);
-        enough = subst (Enough 0) (sym (part-agree LINKS CLOSINGS n w (replaced w l) cleared-below (omega (arith, k .short)))) (k .enough);
-        room = rw (cleared-numbered n (k .short)) (k .room);
-      }
 
 -- ---- from the ends to the rules
 

@@ -1,2 +1,1 @@
-pub mod Numbering
 pub mod Built

@@ -5,9 +5,9 @@ use lib.ListN.{length}
 use borrow.Author.Needs.{needs}
 use Rattle.definitions.specs.Grammar.{Rule}
 use Rattle.stack.specs.Areas.{Rules}
-use Rattle.grammar.proofs.Tabling.{cleared-numbers, cleared-buckets, cleared-numbered, cleared-stays}
-use Rattle.grammar.proofs.rules.Statement.{statement}
-use Rattle.grammar.proofs.rules.Tie as tie
+use Rattle.numbering.proofs.Clearing.{cleared-numbers, cleared-buckets, cleared-numbered, cleared-stays}
+use Rattle.numbering.proofs.rules.Statement.{statement}
+use Rattle.numbering.proofs.rules.Tie as tie
 
 number-requires : tie.Need-number-requires
 number-requires c κs =

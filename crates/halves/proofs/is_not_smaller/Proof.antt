@@ -1,18 +1,20 @@
--- `is_smaller` compares the first ranks, and has the words compared where these are the same.
-use mathlib.Core.Path.{_≡_}
+-- `is_not_smaller` compares the first ranks, and has the words compared where these are the same, the other way round.
+use mathlib.Core.Path.{_≡_, _∙_, ap}
+use mathlib.Core.Bool.{not}
 use native.Mathlib.Omega.{arith}
-use lib.ListN.{length-take}
+use lib.ListN.{getD, length-take}
 use borrow.Author.Needs.{needs}
 use Rattle.lists.specs.Parts.{part}
-use Rattle.filling.proofs.Orders.{ranks-same, ranks-differ}
-use Rattle.filling.proofs.is_smaller.Statement.{statement}
-use Rattle.filling.proofs.is_smaller.Tie as tie
+use Rattle.halves.proofs.Orders.{ranks-same, ranks-differ, other-way}
+use Rattle.halves.proofs.is_not_smaller.Statement.{statement}
+use Rattle.halves.proofs.is_not_smaller.Tie as tie
 
 returns : tie.Need-returns
 returns c =
     let s = c .before .before .before .before in
     let a = s .args in
-    ranks-differ (a .work .now) (a .i) (a .j) (a .n) (s .pre .0) (s .pre .1) (s .pre .2) (omega (arith, s .pre .3)) (c .if1 .taken)
+    other-way (getD (a .work .now) (a .i) 0) (getD (a .work .now) (a .j) 0) (c .if1 .taken)
+    ∙ ap not (ranks-differ (a .work .now) (a .i) (a .j) (a .n) (s .pre .0) (s .pre .1) (s .pre .2) (omega (arith, s .pre .3)) (c .if1 .taken))
 
 rest-before-requires : tie.Need-rest-before-requires
 unfolding part
@@ -22,9 +24,9 @@ rest-before-requires c κs =
 
 returns-2 : tie.Need-returns-2
 unfolding part
-returns-2 c = c .rest-before .ensures
+returns-2 c = ap not (c .rest-before .ensures)
 
-pub is-smaller-spec : {M : Type 1} → statement M
-is-smaller-spec =
+pub is-not-smaller-spec : {M : Type 1} → statement M
+is-not-smaller-spec =
     tie.close
     (tie.spec (λ c. search needs) (λ c. search needs) (λ c. search needs) (λ c. search needs) returns (λ c. search needs) (λ c. search needs) (λ c. search needs) rest-before-requires returns-2)

@@ -1,9 +1,9 @@
 -- `step` pushes the rule of a symbol and does its joins.
 use mathlib.Core.Path.{_∙_}
 use borrow.Author.Needs.{needs}
-use Rattle.grammar.proofs.Stepping.{step-push, step-join, step-done}
-use Rattle.grammar.proofs.step.Statement.{statement}
-use Rattle.grammar.proofs.step.Tie as tie
+use Rattle.numbering.proofs.Stepping.{step-push, step-join, step-done}
+use Rattle.numbering.proofs.step.Statement.{statement}
+use Rattle.numbering.proofs.step.Tie as tie
 
 push-rule-requires : tie.Need-push-rule-requires
 push-rule-requires c κs =

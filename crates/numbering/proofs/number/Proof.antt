@@ -5,9 +5,9 @@ use Prim.Native.Nat.{_≤_, _-_}
 use native.Mathlib.Omega.{arith}
 use lib.ListN.{length}
 use Rattle.stack.specs.Areas.{Below}
-use Rattle.grammar.proofs.Stepping.{Stage, stage-start, stage-steps, stage-next, stage-end}
-use Rattle.grammar.proofs.number.Statement.{statement}
-use Rattle.grammar.proofs.number.Tie as tie
+use Rattle.numbering.proofs.Stepping.{Stage, stage-start, stage-steps, stage-next, stage-end}
+use Rattle.numbering.proofs.number.Statement.{statement}
+use Rattle.numbering.proofs.number.Tie as tie
 
 abbrev Inv-loop : tie.InvT-loop
 Inv-loop order n work₀ c₀ i₀ work c i =

@@ -22,7 +22,7 @@ use Rattle.lyndon.specs.Filling.{Stands, halves-compared, right-halves-compared
 use Rattle.layout.specs.Layout.{lengthIn}
 use Rattle.compare.proofs.Compare.{firsts-differ}
 use Rattle.lengths.proofs.Sizes.{rules-few}
-use Rattle.filling.specs.Filling.{front, Written}
+use Rattle.halves.specs.Halves.{front, Written}
 
 stands-front : (w y : List ℕ) (x : ℕ) → 2048 ≤ length w → x + length y ≤ 2048 → Stands w y x → Stands (front w) y x
 stands-front w y x h l k = record {

@@ -16,7 +16,7 @@ use Rattle.lyndon.specs.Closings.{State, start, push, joins, run, Enough, joins
 use Rattle.layout.specs.Layout.{CLOSINGS, STACK, LINKS, TABLE, BESIDE_SYMBOL}
 use Rattle.dict.specs.Links.{dict-none}
 use Rattle.stack.specs.Areas.{Rules, stackIn, Holds, Pushable, Joinable, Below}
-use Rattle.grammar.specs.Numbering.{stepped, Steppable, numbered, Numberable}
+use Rattle.numbering.specs.Numbering.{stepped, Steppable, numbered, Numberable}
 use Rattle.stack.proofs.Stacks.{joins-room}
 
 -- below the stack the slices agree

@@ -12,10 +12,10 @@ use Rattle.lists.specs.Parts.{part}
 use Rattle.lyndon.specs.Ruled.{PairOf}
 use Rattle.layout.specs.Layout.{lengthIn}
 use Rattle.decoding.proofs.Rules.{symbol-read, pair-read}
-use Rattle.filling.specs.Filling.{front, Written}
-use Rattle.filling.proofs.Orders.{order-room, middle-room, halves-test, right-test, not-less, left-symbol, left-pair, left-same}
-use Rattle.filling.proofs.in_order.Statement.{statement}
-use Rattle.filling.proofs.in_order.Tie as tie
+use Rattle.halves.specs.Halves.{front, Written}
+use Rattle.halves.proofs.Orders.{order-room, middle-room, halves-test, right-test, not-less, left-symbol, left-pair, left-same}
+use Rattle.halves.proofs.in_order.Statement.{statement}
+use Rattle.halves.proofs.in_order.Tie as tie
 
 is-smaller-requires : tie.Need-is-smaller-requires
 is-smaller-requires c κs =
