@@ -437,23 +437,35 @@ class Lending(unittest.TestCase):
         self.assertIsNotNone(kept.__traceback__)
 
     def test_count_each(self):
-        texts = [b"ab" * (number % 5) for number in range(1203)]  # more than two calls take
+        texts = [b"ab" * (number % 5) for number in range(303)]  # more than three calls take
         tables = [sirbolta.build(text, number) for number, text in enumerate(texts)]
         ways = [lambda table: table, bytes, lambda table: bytearray(bytes(table)), lambda table: list(table.words)]
         mixed = [ways[number % 4](table) for number, table in enumerate(tables)]
-        counts = [number % 5 for number in range(1203)]
+        counts = [number % 5 for number in range(303)]
         self.assertEqual((sirbolta.count_each(tables, b"ab"), sirbolta.count_each(iter(mixed), bytearray(b"ab"))), (counts, counts))
-        self.assertEqual([sirbolta.count_each(tables[:some], b"ab") for some in (0, 1, 500, 501)], [counts[:some] for some in (0, 1, 500, 501)])
-        for some in 0, 499, 500, 1202:  # the first that is refused decides
-            refused = tables[:some] + [[0, 0xC0000000, 257, 0xC0000000], b""] + tables[some:]
-            with self.assertRaises(sirbolta.BadWord) as raised:
-                sirbolta.count_each(refused, b"ab")
-            self.assertEqual(raised.exception.place, 2)
+        self.assertEqual([sirbolta.count_each(tables[:some], b"ab") for some in (0, 1, 100, 101)], [counts[:some] for some in (0, 1, 100, 101)])
+
+    def test_count_each_raises_what_comes_first(self):
+        tables = [sirbolta.build(b"ab", number) for number in range(202)]
+        bad = [0, 0xC0000000, 257, 0xC0000000]
+        for some in 0, 99, 100, 201:
+            for behind in b"", b"abc", None:
+                with self.assertRaises(sirbolta.BadWord) as raised:
+                    sirbolta.count_each([*tables[:some], bad, behind, *tables[some:]], b"ab")
+                self.assertEqual((raised.exception.place, raised.exception.table), (2, some))
+                self.assertEqual(str(raised.exception), f"refused 6: word 2 of the table is bad (table {some})")
+            self.assertRaises(ValueError, sirbolta.count_each, [*tables[:some], b"abc", bad], b"ab")
+            self.assertRaises(KeyError, sirbolta.count_each, self.failing(tables[:some]), b"ab")
+            self.assertRaises(sirbolta.TableLength, sirbolta.count_each, self.failing([*tables[:some], b""]), b"ab")
         self.assertRaises(sirbolta.PatternEmpty, sirbolta.count_each, tables, b"")
         for wrong in self.table, None, [1, 2], "ab", [None], [self.table, "ab"]:
             self.assertRaises(TypeError, sirbolta.count_each, wrong, b"ab")
         self.assertRaises(TypeError, sirbolta.count_each, tables, "ab")
-        self.assertRaises(ValueError, sirbolta.count_each, [b"abc"], b"ab")
+
+    @staticmethod
+    def failing(tables):
+        yield from tables
+        raise KeyError
 
     def test_one_work_slice_a_thread(self):
         works = [self.handed(self.table)[2] for _ in range(2)]

@@ -1,5 +1,5 @@
-"""The library as include/sirbolta.h declares it, and the loop of each.c over its count, loaded if it has this package's interface number; and what a thread has for its calls: a work slice, and a
-stack that is large enough or not."""
+"""The library as include/sirbolta.h declares it, with the loop of each.c over its count, loaded if it has this package's interface number; and what a thread
+has for its calls: a work slice, and a stack that is large enough or not."""
 
 from __future__ import annotations
 
@@ -31,7 +31,7 @@ class SearchReply(ctypes.Structure):
 
 
 SLICE = [ctypes.c_void_p, ctypes.c_size_t]
-SERVICES: dict[str, tuple[type[ctypes.Structure] | None, list[Any]]] = {
+FUNCTIONS: dict[str, tuple[type[ctypes.Structure] | None, list[Any]]] = {
     "build": (Reply, SLICE + [ctypes.c_uint16] + SLICE * 2),
     "check": (Reply, SLICE * 2),
     "read": (Reply, SLICE * 3),
@@ -67,7 +67,7 @@ def loaded(file: Path) -> ctypes.CDLL:
         number = interface()
     if number != INTERFACE:
         raise ImportError(f"the interface number of {file} is {number}, that of this package {INTERFACE}")
-    for name, (reply, arguments) in SERVICES.items():
+    for name, (reply, arguments) in FUNCTIONS.items():
         function = getattr(library, "sirbolta_" + name, None)
         if not function:
             raise ImportError(f"{file} has no function sirbolta_{name}, which this package calls")

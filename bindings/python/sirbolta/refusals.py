@@ -4,7 +4,8 @@ from __future__ import annotations
 
 
 class Refusal(Exception):
-    """A service's refusal: its number, its reason, and its place, which is the index of a bad word, the entries needed, otherwise 0."""
+    """A service's refusal: its number, its reason, and its place, which is the index of a bad word, the entries needed, otherwise 0; of `count_each` also the
+    index of the table that is refused."""
 
     number: int = 0
     reason: str = ""
@@ -12,12 +13,12 @@ class Refusal(Exception):
     def __init_subclass__(cls) -> None:
         cls.__doc__ = cls.__doc__ or cls.reason.format(place="N")
 
-    def __init__(self, place: int = 0) -> None:
+    def __init__(self, place: int = 0, table: int | None = None) -> None:
         super().__init__(place)
-        self.place = place
+        self.place, self.table = place, table
 
     def __str__(self) -> str:
-        return f"refused {self.number}: {self.reason.format(place=self.place)}"
+        return f"refused {self.number}: {self.reason.format(place=self.place)}" + ("" if self.table is None else f" (table {self.table})")
 
 
 class TextTooLong(Refusal):
@@ -56,9 +57,9 @@ class ResultTooShort(Refusal):
     number, reason = 9, "the result slice is too short, {place} entries are needed"
 
 
-def refusal(number: int, place: int) -> Refusal:
+def refusal(number: int, place: int, table: int | None = None) -> Refusal:
     """The refusal with this number."""
-    return _NUMBERED[number](place)
+    return _NUMBERED[number](place, table)
 
 
 _NUMBERED = {kind.number: kind for kind in Refusal.__subclasses__()}

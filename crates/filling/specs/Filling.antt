@@ -6,7 +6,7 @@ use Prim.Native.Nat.{ℕ, zero, suc, _+_, _≤_, _<_}
 use lib.ListN.{length, getD, set}
 use Rattle.definitions.specs.declared.Order.{Order}
 use Rattle.definitions.specs.Words.{every}
-use Rattle.definitions.specs.Table.{ruleString, spelled, ruleCount}
+use Rattle.definitions.specs.Table.{ruleString, spelled}
 use Rattle.lists.specs.Parts.{Filled}
 use Rattle.lyndon.specs.Standard.{ordered}
 use Rattle.layout.specs.Layout.{WORK, lengthIn, placeIn}

@@ -23,7 +23,7 @@ pub struct Run {
 
 // Where the scan starts: at sample 1, with no run scanned.
 pub fn first() -> Run
-    ensures { λ r. ⌜ (r .start ≡ 1) × (r .back ≡ 0) ⌝ }
+    ensures { λ r. ⌜ (r .start ≡ 1) × (r .back ≡ 0) × (r .end ≡ 0) ⌝ }
 {
     Run {
         start: 1,

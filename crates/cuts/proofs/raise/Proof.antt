@@ -26,7 +26,7 @@ loop-holds : tie.Need-loop-holds Inv-loop μ-loop
 loop-holds c =
     let a = c .before .before .before .args in
     let r = c .first .result in
-    let (e, z) = c .first .ensures in
+    let (e, z, _) = c .first .ensures in
     (refl, scan-start (map (rankOf (a .order)) (a .pattern .now)) (r .start) (r .back) (r .end) e z, raised-start (a .order) (a .pattern .now) (r .start) e (a .flags .now))
 
 raise-one-requires : tie.Need-raise-one-requires Inv-loop μ-loop
