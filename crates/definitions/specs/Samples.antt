@@ -13,11 +13,11 @@ use Rattle.definitions.specs.declared.Answer.the-variants.{Done, Refused
 use Rattle.definitions.specs.declared.Search.{Search}
 use Rattle.definitions.specs.declared.Reply.{Reply}
 use Rattle.definitions.specs.declared.SearchReply.{SearchReply}
-use Rattle.definitions.specs.Words.{every, below, least, placed, same, begins, lexlt, lyndon, cutOf}
+use Rattle.definitions.specs.Words.{every, below, least, placed, same, begins, lexlt, lyndon, cutOf, greatest, lyndonLength, lyndonArray}
 use Rattle.definitions.specs.Grammar.{leftOf, rightOf, word, split, lyndonTree, indexOf, meet, visit, order, ruleOf, rulesOf}
 use Rattle.definitions.specs.Table.{rankOf, byteOf, numberOfRank, rankOfNumber, marked, wordOf, kindOf, numberOf, ruleWords, words, tableOf, badFirst, badSecond, badWord, stringOf, strings, ruleString, isPair, leftHalf, rightHalf, spelled, textOf, chairOf, isDrive, isChair, isTable}
 use Rattle.definitions.specs.Occurrences.{occurrences, notGreaterAtDifference, isLive, liveCuts, patternCuts, straddles, straddling, cutIn, cutAt}
-use Rattle.definitions.specs.Services.{Numbers, Outcome, numbersOf, readOutcome, searchOutcome, Service, firstMet, outcome, outcomeOf, cleared, slicesAfter, sampleOrder, tableChecks, patternChecks, buildService, checkService, readService, extractService, countService, locateService, cutsService}
+use Rattle.definitions.specs.Services.{Numbers, Outcome, numbersOf, readOutcome, searchOutcome, Service, firstMet, outcome, outcomeOf, cleared, slicesAfter, sampleOrder, tableChecks, patternChecks, buildService, checkService, readService, extractService, countService, locateService, cutsService, lyndonLengthService, lyndonArrayService}
 use Rattle.definitions.specs.Replies.{replyNumbers, searchNumbers}
 use Rattle.definitions.specs.Programs.{digits, digitsUpTo, digitCount, decimal, line, named, decimalLines, refusedLine, printed, motifOf, driveOf, foundLines, motifOutput}
 
@@ -67,6 +67,8 @@ pub data Sample : Type 0 where
   cuts : List ℕ → List ℕ → Sample
   -- in this pair rule of the drive's table the pattern straddles the join at just these places, and is cut there at live cuts
   joins : List ℕ → ℕ → List ℕ → List ℕ → Sample
+  -- the Lyndon array of the drive
+  lengths : List ℕ → List ℕ → Sample
   -- the table of the drive and chair number, word by word
   table : List ℕ → ℕ → List ℕ → Sample
   -- the service ends with this number, place, count and chair number
@@ -119,6 +121,7 @@ holds (joins text r p places) =
     let v = rightHalf sampleOrder t r in
     let q = map (rankOf sampleOrder) p in
     isPair t r && (same (straddling q u v) places && same (cutAt q (patternCuts sampleOrder p) u v) places)
+holds (lengths text l) = same (lyndonArray (map (rankOf sampleOrder) text)) l
 holds (table text chair t) = same (tableOf sampleOrder text chair) t
 holds (ends s number place count chair) = same (parts (outcome s)) (number ∷ place ∷ count ∷ chair ∷ [])
 holds (leaves s after) = same (last (slicesAfter s)) after
@@ -164,6 +167,12 @@ samples =
     ∷ joins (a ∷ a ∷ b ∷ b ∷ []) 5 (a ∷ a ∷ b ∷ []) (0 ∷ [])
     ∷ joins (a ∷ b ∷ b ∷ b ∷ []) 5 (b ∷ b ∷ b ∷ []) (1 ∷ [])
     ∷ joins (a ∷ b ∷ b ∷ b ∷ []) 5 (b ∷ []) []
+    ∷ lengths abab (2 ∷ 1 ∷ 2 ∷ 1 ∷ [])
+    ∷ lengths (a ∷ a ∷ b ∷ []) (3 ∷ 2 ∷ 1 ∷ [])
+    ∷ lengths (a ∷ a ∷ a ∷ a ∷ []) (1 ∷ 1 ∷ 1 ∷ 1 ∷ [])
+    ∷ lengths (b ∷ a ∷ a ∷ b ∷ []) (1 ∷ 3 ∷ 2 ∷ 1 ∷ [])
+    ∷ lengths (97 ∷ 200 ∷ 100 ∷ []) (3 ∷ 1 ∷ 1 ∷ [])
+    ∷ lengths [] []
     ∷ table abab 40 ofAbab
     ∷ ends (buildService sampleOrder abab 40 room (replicate 12 7)) 0 0 12 0
     ∷ ends (buildService sampleOrder abab 40 room (replicate 11 7)) 9 12 0 0
@@ -203,6 +212,17 @@ samples =
     ∷ ends (cutsService sampleOrder [] []) 2 0 0 0
     ∷ ends (locateService sampleOrder (tableOf sampleOrder (a ∷ a ∷ a ∷ a ∷ []) 0) (a ∷ a ∷ []) room (replicate 2 7)) 9 3 0 0
     ∷ ends (cutsService sampleOrder (a ∷ a ∷ b ∷ a ∷ []) (replicate 1 7)) 9 2 0 0
+    ∷ ends (lyndonLengthService sampleOrder ofAbab 2 room) 0 0 2 0
+    ∷ ends (lyndonLengthService sampleOrder ofAbab 3 room) 0 0 1 0
+    ∷ ends (lyndonLengthService sampleOrder ofAbab 4 room) 8 0 0 0
+    ∷ ends (lyndonLengthService sampleOrder ofAbab 18446744073709551615 room) 8 0 0 0
+    ∷ ends (lyndonLengthService sampleOrder (tableOf sampleOrder [] 40) 0 room) 8 0 0 0
+    ∷ ends (lyndonLengthService sampleOrder twoRules 4 room) 7 0 0 0
+    ∷ ends (lyndonLengthService sampleOrder [] 0 (drop 1 room)) 4 0 0 0
+    ∷ ends (lyndonArrayService sampleOrder (tableOf sampleOrder [] 40) room []) 0 0 0 0
+    ∷ ends (lyndonArrayService sampleOrder ofAbab room (replicate 3 7)) 9 4 0 0
+    ∷ ends (lyndonArrayService sampleOrder twoRules room []) 7 0 0 0
+    ∷ leaves (lyndonArrayService sampleOrder ofAbab room (replicate 5 7)) (2 ∷ 1 ∷ 2 ∷ 1 ∷ 7 ∷ [])
     ∷ leaves (extractService sampleOrder ofAbab 1 2 room (replicate 3 7)) (b ∷ a ∷ 7 ∷ [])
     ∷ leaves (locateService sampleOrder ofAbab (a ∷ b ∷ []) room (replicate 1 7)) (7 ∷ [])
     ∷ leaves (locateService sampleOrder ofAbab (a ∷ b ∷ []) room (replicate 3 7)) (0 ∷ 2 ∷ 7 ∷ [])
@@ -215,6 +235,7 @@ samples =
     ∷ leaves (checkService sampleOrder ofAbab (7 ∷ [])) (7 ∷ [])
     ∷ clears (countService sampleOrder ofAbab [] room) false
     ∷ clears (extractService sampleOrder ofAbab 4 1 room []) true
+    ∷ clears (lyndonLengthService sampleOrder ofAbab 4 room) true
     ∷ clears (buildService sampleOrder abab 40 room (replicate 11 7)) true
     ∷ answers (Done 5) 0 0 5
     ∷ answers (Refused 6 5) 6 5 0
@@ -258,5 +279,5 @@ samples =
 
 -- every sample holds
 pub samples-hold : all samples ≡ true
-unfolding edges holds all samples four parts numbersOf readOutcome searchOutcome replyNumbers searchNumbers every below least placed same begins lexlt lyndon cutOf leftOf rightOf word split lyndonTree indexOf meet visit order ruleOf rulesOf rankOf byteOf numberOfRank rankOfNumber marked wordOf kindOf numberOf ruleWords words tableOf badFirst badSecond badWord stringOf strings ruleString isPair leftHalf rightHalf spelled textOf chairOf isDrive isChair isTable occurrences notGreaterAtDifference isLive liveCuts patternCuts straddles straddling cutIn cutAt firstMet outcome outcomeOf cleared slicesAfter last tableChecks patternChecks buildService checkService readService extractService countService locateService cutsService digits digitsUpTo digitCount decimal line named decimalLines refusedLine printed motifOf driveOf foundLines motifOutput
+unfolding edges holds all samples four parts numbersOf readOutcome searchOutcome replyNumbers searchNumbers every below least placed same begins lexlt lyndon cutOf greatest lyndonLength lyndonArray leftOf rightOf word split lyndonTree indexOf meet visit order ruleOf rulesOf rankOf byteOf numberOfRank rankOfNumber marked wordOf kindOf numberOf ruleWords words tableOf badFirst badSecond badWord stringOf strings ruleString isPair leftHalf rightHalf spelled textOf chairOf isDrive isChair isTable occurrences notGreaterAtDifference isLive liveCuts patternCuts straddles straddling cutIn cutAt firstMet outcome outcomeOf cleared slicesAfter last tableChecks patternChecks buildService checkService readService extractService countService locateService cutsService lyndonLengthService lyndonArrayService digits digitsUpTo digitCount decimal line named decimalLines refusedLine printed motifOf driveOf foundLines motifOutput
 samples-hold = refl

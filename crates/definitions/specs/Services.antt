@@ -13,8 +13,8 @@ use Rattle.definitions.specs.declared.Answer.the-variants as answer
 use Rattle.definitions.specs.declared.ReadAnswer.{ReadAnswer}
 use Rattle.definitions.specs.declared.ReadAnswer.the-variants as read
 use Rattle.definitions.specs.declared.Search.{Search}
-use Rattle.definitions.specs.Words.{least, placed}
-use Rattle.definitions.specs.Table.{tableOf, badWord, isTable, textOf, chairOf, ruleCount}
+use Rattle.definitions.specs.Words.{least, placed, lyndonLength, lyndonArray}
+use Rattle.definitions.specs.Table.{rankOf, tableOf, badWord, isTable, textOf, chairOf, ruleCount}
 use Rattle.definitions.specs.Occurrences.{occurrences, patternCuts}
 
 -- ---- outcomes
@@ -138,7 +138,7 @@ hasBadWord t = let i = least (badWord t) (length t) in check (ltb i (length t)) 
 abbrev pub notATable : Order → List ℕ → Check
 notATable o t = check (not (isTable o t)) 7 0 true
 
--- in a drive of n samples
+-- in a drive of n samples; a position is a range of one sample
 abbrev pub rangePastEnd : ℕ → ℕ → ℕ → Check
 rangePastEnd n start count = check (ltb n (start + count)) 8 0 true
 
@@ -200,3 +200,13 @@ locateService o t p work result = working work (writes (patternChecks p ++ table
 -- list the live cuts of a pattern
 unfoldable pub cutsService : Order → List ℕ → List ℕ → Service
 cutsService o p result = writes (patternChecks p) (patternCuts o p) 0 result
+
+-- the length of the longest Lyndon word that begins at a position of a drive
+unfoldable pub lyndonLengthService : Order → List ℕ → ℕ → List ℕ → Service
+lyndonLengthService o t position work =
+    let text = textOf o t in
+    working work (gives (tableChecks o t (length work) ++ (rangePastEnd (length text) position 1 ∷ [])) (done (lyndonLength (map (rankOf o) text) position) 0))
+
+-- the Lyndon array of a drive: these lengths at all positions
+unfoldable pub lyndonArrayService : Order → List ℕ → List ℕ → List ℕ → Service
+lyndonArrayService o t work result = working work (writes (tableChecks o t (length work)) (lyndonArray (map (rankOf o) (textOf o t))) 0 result)

@@ -2,8 +2,8 @@
 -- A string is a list of symbols; a symbol is a natural number, and symbols compare as numbers.
 use Prim.Native.Nat.{ℕ, zero, suc}
 use mathlib.Core.Bool.{Bool, true, false, cond, not, _&&_, _||_}
-use mathlib.Core.List.{List, [], _∷_, _++_}
-use lib.ListN.{length, drop}
+use mathlib.Core.List.{List, [], _∷_, _++_, map}
+use lib.ListN.{length, take, drop}
 use lib.Dec.{ltb, eqb}
 
 -- ---- numbers below a bound, and the front of a slice
@@ -22,6 +22,11 @@ below f (suc n) = below f n ++ cond (f n) (n ∷ []) []
 unfoldable pub least : (ℕ → Bool) → ℕ → ℕ
 least f zero = zero
 least f (suc n) = let k = least f n in cond (eqb k n && not (f n)) (suc n) k
+
+-- the greatest number from 1 to n of which f holds, and 0 where there is none
+unfoldable pub greatest : (ℕ → Bool) → ℕ → ℕ
+greatest f zero = zero
+greatest f (suc n) = cond (f (suc n)) (suc n) (greatest f n)
 
 -- a slice that held old, once l is written at its front: the rest stays
 unfoldable pub placed {ℓ} : {A : Type ℓ} → List A → List A → List A
@@ -57,3 +62,11 @@ lyndon w = ltb 0 (length w) && every (λ k. eqb k 0 || lexlt w (drop k w)) (leng
 -- where the longest proper suffix that is a Lyndon word begins, in a word of two or more symbols
 unfoldable pub cutOf : List ℕ → ℕ
 cutOf w = least (λ k. ltb 0 k && lyndon (drop k w)) (length w)
+
+-- the length of the longest Lyndon word that begins at position i of s
+unfoldable pub lyndonLength : List ℕ → ℕ → ℕ
+lyndonLength s i = greatest (λ k. lyndon (take k (drop i s))) (length (drop i s))
+
+-- the Lyndon array of s: this length at each of its positions
+unfoldable pub lyndonArray : List ℕ → List ℕ
+lyndonArray s = map (lyndonLength s) (below (λ i. true) (length s))

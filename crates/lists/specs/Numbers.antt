@@ -1,4 +1,4 @@
--- Numbers below a bound that pass a test: `every`, `below` and `least` of the definitions.
+-- Numbers below a bound that pass a test: `every`, `below`, `least` and `greatest` of the definitions.
 use mathlib.Core.Path.{_≡_, refl, sym, _∙_, ap, subst}
 use mathlib.Core.Bool.{Bool, true, false, cond, not, _&&_}
 use mathlib.Core.Logic.{_⊎_, inl, inr, ⊎-elim}
@@ -9,7 +9,7 @@ use native.Mathlib.Omega.{arith}
 use lib.ListN.{length, length-append}
 use lib.Dec.{ltb, eqb}
 use borrow.Author.Tests.{ltb-true, ltb-false, eqb-true, eq-eqb}
-use Rattle.definitions.specs.Words.{every, below, least}
+use Rattle.definitions.specs.Words.{every, below, least, greatest}
 use Rattle.lists.specs.Bools.{either, contra, and-left, and-right, and-intro, cond-true, cond-false}
 
 -- ---- one order or the other
@@ -248,3 +248,14 @@ least-none f n b =
     (λ l. contra (least-holds f n l) (b (least f n) l))
     (λ q. q)
     (λ l. absurd (omega (arith, least-le f n)))
+
+-- ---- greatest
+
+-- it is the number that passes the test, or 0, above which none does
+pub greatest-is : (f : ℕ → Bool) (n m : ℕ) → m ≤ n → (0 < m → f m ≡ true) → ((k : ℕ) → m < k → k ≤ n → f k ≡ false) → greatest f n ≡ m
+unfolding greatest
+greatest-is f zero m h p q = omega arith
+greatest-is f (suc n) m h p q =
+    split-le m n
+    (λ l. cond-false (f (suc n)) (suc n) (greatest f n) (q (suc n) (omega arith) (omega arith)) ∙ greatest-is f n m l p (λ k a b. q k a (omega arith)))
+    (λ l. let e : m ≡ suc n = omega arith in cond-true (f (suc n)) (suc n) (greatest f n) (subst (λ (k : ℕ). f k ≡ true) e (p (omega arith))) ∙ sym e)

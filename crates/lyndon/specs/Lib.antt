@@ -11,6 +11,7 @@ pub mod Ranks
 pub mod Encoding
 pub mod Tables
 pub mod Stored
+pub mod Arrays
 pub mod Occurrences
 pub mod Cuts
 pub mod Joins
