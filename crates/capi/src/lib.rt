@@ -7,7 +7,7 @@ use replies::replied_read;
 use replies::replied_search;
 ghost use mathlib.Core.Path.{_≡_};
 ghost use mathlib.Core.List.{[], _∷_};
-ghost use Rattle.definitions.specs.Services.{Serves, sampleOrder, buildService, checkService, readService, extractService, countService, locateService, cutsService};
+ghost use Rattle.definitions.specs.Services.{Serves, sampleOrder, buildService, checkService, readService, extractService, countService, locateService, cutsService, lyndonLengthService, lyndonArrayService};
 ghost use Rattle.definitions.specs.Replies.{Replies, SearchReplies, interfaceNumber};
 
 // The number of this interface, by which a program can tell another library from its own.
@@ -88,4 +88,24 @@ pub extern "C" fn sirbolta_live_cuts(pattern: &[u8], result: &mut [u32]) -> Repl
     ensures { λ r. ⌜ Serves (cutsService sampleOrder (now (pattern .entry)) (now (result .entry))) (Replies r) (now (result .exit) ∷ []) ⌝ }
 {
     replied(index::live_cuts(pattern, result))
+}
+
+// The length of the longest Lyndon word that begins at a position of the text: `index::lyndon_length`.
+#[no_mangle]
+pub extern "C" fn sirbolta_lyndon_length(table: &[u32], position: usize, work: &mut [u32]) -> Reply
+    ensures { λ r. ⌜ Serves (lyndonLengthService sampleOrder (now (table .entry)) position (now (work .entry))) (Replies r) (now (work .exit) ∷ []) ⌝ }
+{
+    replied(index::lyndon_length(table, position, work))
+}
+
+// These lengths at all positions: `index::lyndon_array`.
+#[no_mangle]
+pub extern "C" fn sirbolta_lyndon_array(
+    table: &[u32],
+    work: &mut [u32],
+    result: &mut [u32],
+) -> Reply
+    ensures { λ r. ⌜ Serves (lyndonArrayService sampleOrder (now (table .entry)) (now (work .entry)) (now (result .entry))) (Replies r) (now (work .exit) ∷ now (result .exit) ∷ []) ⌝ }
+{
+    replied(index::lyndon_array(table, work, result))
 }
