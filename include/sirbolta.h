@@ -2,7 +2,7 @@
  * Sirbolta: a drive stored as its Lyndon grammar, checked, read back and searched.
  *
  * A text is a drive: 0 to 2,047 samples of one byte. A pattern is 1 to 2,047 samples. A table is what sirbolta_build writes: words of 32 bits,
- * at most 4,608. Positions count from 0.
+ * at most 4,608. Positions count from 0. A Lyndon word is not empty, and smaller than each of its proper suffixes but the empty one.
  *
  * A slice is a pointer and a length in entries; a null pointer with length 0 is fine. The caller sees to it that
  *   - each pointer is valid for its length, and a pointer to words is aligned to 4 bytes;
@@ -17,11 +17,12 @@
  *   2  pattern empty       the pattern has no sample                                   count, locate, live_cuts
  *   3  pattern too long    the pattern has more than 2,047 samples                     count, locate, live_cuts
  *   4  work too short      the work slice has fewer than 16,384 words                  all but live_cuts
- *   5  table length        the table has no word, an odd number, or more than 4,608    check, read, extract, count, locate
- *   6  bad word            a word of the table is bad                                  check, read, extract, count, locate
- *   7  not a table         no bad word, yet the table of no text and chair number      check, read, extract, count, locate
+ *   5  table length        the table has no word, an odd number, or more than 4,608    all but build and live_cuts
+ *   6  bad word            a word of the table is bad                                  all but build and live_cuts
+ *   7  not a table         no bad word, yet the table of no text and chair number      all but build and live_cuts
  *   8  range past the end  start + length is above the text's length (it never wraps)  extract
- *   9  result too short    the result slice has fewer entries than the result          build, read, extract, locate, live_cuts
+ *                          the position is not below the text's length                 lyndon_length
+ *   9  result too short    the result slice has fewer entries than the result          all but check, count and lyndon_length
  *
  * Place is the lowest index of a bad word for 6, the entries needed for 9, otherwise 0. Count is what the service says on success, 0 when it
  * refuses. Chair is the chair number where sirbolta_read succeeds, otherwise 0.
@@ -72,6 +73,12 @@ sirbolta_search_reply sirbolta_locate(const uint32_t *table, size_t table_len, c
 
 /* Writes the live cuts of the pattern, rising, each once. Count: the cuts written. */
 sirbolta_reply sirbolta_live_cuts(const uint8_t *pattern, size_t pattern_len, uint32_t *result, size_t result_len);
+
+/* Count: the length of the longest Lyndon word that begins at position in the text. */
+sirbolta_reply sirbolta_lyndon_length(const uint32_t *table, size_t table_len, size_t position, uint32_t *work, size_t work_len);
+
+/* Writes the length of the longest Lyndon word that begins at each position of the text. Count: the lengths written. */
+sirbolta_reply sirbolta_lyndon_array(const uint32_t *table, size_t table_len, uint32_t *work, size_t work_len, uint32_t *result, size_t result_len);
 
 #ifdef __cplusplus
 }

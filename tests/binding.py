@@ -1,5 +1,5 @@
-"""Tests the Python package: the cases of a vector file with every kind of table, every refusal of every service, other values and types, threads and their
-stacks, the examples. `binding.py FILE`."""
+"""Tests the Python package: the cases of vector files with every kind of table, every refusal of every service, other values and types, threads and their
+stacks, the examples. `binding.py FILE..`."""
 
 import copy
 import ctypes
@@ -116,12 +116,17 @@ def asked(case: dict, kind):
         case "cuts":
             cuts = sirbolta.live_cuts(motif)
             return len(cuts), cuts
+        case "longest":
+            return sirbolta.lyndon_length(table, int(case["arg position"])), None
+        case "longest_all":
+            lengths = sirbolta.lyndon_array(table)
+            return len(lengths), lengths
     raise AssertionError(f"an unknown call: {case['call']}")
 
 
 class Vectors(unittest.TestCase):
     def test_every_case_with_slices_long_enough(self):
-        for case in cases(FILE):
+        for case in [case for file in FILES for case in cases(file)]:
             want = dict(zip(*[iter(case["want"].split())] * 2))
             if want["no"] in "49":
                 continue
@@ -129,7 +134,7 @@ class Vectors(unittest.TestCase):
                 with self.subTest(case, kind=name):
                     self.agrees(case, want, KINDS[name])
             AGREED[case["call"]] = AGREED.get(case["call"], 0) + 1
-        self.assertEqual(sorted(AGREED), ["build", "check", "count", "cuts", "list", "part", "read"])
+        self.assertEqual(sorted(AGREED), ["build", "check", "count", "cuts", "list", "longest", "longest_all", "part", "read"])
 
     def agrees(self, case, want, kind):
         if want["no"] == "0":
@@ -154,9 +159,9 @@ class Refusals(unittest.TestCase):
     ]
     CONCERNED = {
         "build": [1, 4, 9], "check": [4, 5, 6, 7], "read": [4, 5, 6, 7, 9], "extract": [4, 5, 6, 7, 8, 9], "count": [2, 3, 4, 5, 6, 7],
-        "locate": [2, 3, 4, 5, 6, 7, 9], "live_cuts": [2, 3, 9],
+        "locate": [2, 3, 4, 5, 6, 7, 9], "live_cuts": [2, 3, 9], "lyndon_length": [4, 5, 6, 7, 8], "lyndon_array": [4, 5, 6, 7, 9],
     }
-    NEEDED = {"build": 8, "read": 4, "extract": 3, "locate": 3, "live_cuts": 1}
+    NEEDED = {"build": 8, "read": 4, "extract": 3, "locate": 3, "live_cuts": 1, "lyndon_array": 4}
     CHANGED = {
         1: {"samples": bytearray(2048)},
         2: {"samples": bytearray()},
@@ -165,20 +170,21 @@ class Refusals(unittest.TestCase):
         5: {"table": sirbolta.Table([])},
         6: {"table": sirbolta.Table([0, 0xC0000000, 257, 0xC0000000])},
         7: {"table": sirbolta.Table([98, 0xC0000000])},
-        8: {"start": 4, "length": 1},
+        8: {"start": 4, "length": 1, "position": 4},
         9: {"_SAMPLES": 0, "_TABLE": 0},
     }
 
     def setUp(self):
-        self.usual = {"table": sirbolta.build(b"aaaa", 40), "samples": bytearray(b"aa"), "chair": 40, "start": 0, "length": 3}
+        self.usual = {"table": sirbolta.build(b"aaaa", 40), "samples": bytearray(b"aa"), "chair": 40, "start": 0, "length": 3, "position": 3}
         self.answers = {
             "build": sirbolta.Table([0, 0xC0000028, 98, 0xC0000000, 0x40000000, 0x80000001, 0x40000002, 0x80000001]), "check": 6, "read": (b"aaaa", 40),
-            "extract": b"aaa", "count": 3, "locate": [0, 1, 2], "live_cuts": [1],
+            "extract": b"aaa", "count": 3, "locate": [0, 1, 2], "live_cuts": [1], "lyndon_length": 1, "lyndon_array": [1, 1, 1, 1],
         }
 
     def ask(self, service, given):
         arguments = {"build": ["samples", "chair"], "extract": ["table", "start", "length"], "live_cuts": ["samples"]}
         arguments |= {"check": ["table"], "read": ["table"], "count": ["table", "samples"], "locate": ["table", "samples"]}
+        arguments |= {"lyndon_length": ["table", "position"], "lyndon_array": ["table"]}
         return getattr(sirbolta, service)(*[given[name] for name in arguments[service]])
 
     def test_every_refusal_of_every_service(self):
@@ -197,7 +203,7 @@ class Refusals(unittest.TestCase):
                     self.assertEqual({name: self.ask(name, self.usual) for name in self.answers}, self.answers)
 
     def test_what_does_not_concern_a_service(self):
-        for service, number in [("live_cuts", 4), ("check", 9), ("count", 9)]:
+        for service, number in [("live_cuts", 4), ("check", 9), ("count", 9), ("lyndon_length", 9)]:
             with self.subTest(service=service, number=number), patch.multiple(sirbolta, **self.CHANGED[number]):
                 self.assertEqual(self.ask(service, self.usual), self.answers[service])
 
@@ -227,6 +233,7 @@ class Module(unittest.TestCase):
             ("a word of a table is negative", lambda: sirbolta.check([0, -1])),
             ("start is negative", lambda: sirbolta.extract(self.table, -1, 2)),
             ("length is negative", lambda: sirbolta.extract(self.table, 2, -(10**5000))),
+            ("position is negative", lambda: sirbolta.lyndon_length(self.table, -1)),
             ("a table has four bytes a word, so not 47 bytes", lambda: sirbolta.check(bytes(self.table)[1:])),
             ("a table has four bytes a word, so not 47 bytes", lambda: sirbolta.count(bytearray(bytes(self.table))[1:], b"ab")),
             ("a table has four bytes a word, so not 47 bytes", lambda: sirbolta.locate(memoryview(bytes(self.table))[1:], b"ab")),
@@ -244,6 +251,14 @@ class Module(unittest.TestCase):
         self.assertRaises(sirbolta.TableLength, sirbolta.extract, [], 2**64, 0)
         self.assertEqual(sirbolta.extract(self.table, 4, 0), b"")
 
+    def test_a_position_of_any_size(self):
+        for position in [4, 5, 2**32, 2**32 + 1, 2**64 - 1, 2**64, 2**64 + 1, 10**5000]:
+            with self.subTest(bits=position.bit_length()):
+                self.assertRaises(sirbolta.RangePastEnd, sirbolta.lyndon_length, self.table, position)
+        self.assertRaises(sirbolta.RangePastEnd, sirbolta.lyndon_length, sirbolta.build(b"", 40), 0)
+        self.assertRaises(sirbolta.TableLength, sirbolta.lyndon_length, [], 2**64)
+        self.assertEqual([sirbolta.lyndon_length(self.table, position) for position in range(4)], [2, 1, 2, 1])
+
     def test_other_types(self):
         words = self.table.words
         for table in ["", "abab", {}, dict.fromkeys(words), set(), frozenset(words), iter(words), None, 4]:
@@ -254,6 +269,8 @@ class Module(unittest.TestCase):
             self.wrong_type(sentence, sirbolta.extract, table, 0, 0)
             self.wrong_type(sentence, sirbolta.count, table, b"ab")
             self.wrong_type(sentence, sirbolta.locate, table, b"ab")
+            self.wrong_type(sentence, sirbolta.lyndon_length, table, 0)
+            self.wrong_type(sentence, sirbolta.lyndon_array, table)
         for table in [array("i"), array("H"), array("Q"), array("f"), (ctypes.c_uint32.__ctype_be__ * 2)()]:
             sentence = f"a table's buffer has single bytes or unsigned words of 32 bits, not the format {memoryview(table).format}"
             self.wrong_type(sentence, sirbolta.Table, table)
@@ -270,6 +287,7 @@ class Module(unittest.TestCase):
             self.wrong_type(f"the chair number is a whole number, not {kind}", sirbolta.build, b"abab", number)
             self.wrong_type(f"start is a whole number, not {kind}", sirbolta.extract, self.table, number, 0)
             self.wrong_type(f"length is a whole number, not {kind}", sirbolta.extract, self.table, 0, number)
+            self.wrong_type(f"position is a whole number, not {kind}", sirbolta.lyndon_length, self.table, number)
             self.wrong_type(f"a word of a table is a whole number, not {kind}", sirbolta.check, [0, number])
 
     def wrong_type(self, sentence, service, *arguments):
@@ -291,6 +309,7 @@ class Module(unittest.TestCase):
         table = sirbolta.build(text, 65_535)
         self.assertEqual((len(table.words), sirbolta.check(table)), (4608, 2304))
         self.assertEqual(sirbolta.read(table), (text, 65_535))
+        self.assertEqual((sirbolta.lyndon_length(table, 0), sirbolta.lyndon_array(table)), (2047, [*range(2047, 7, -1)] + [1] * 7))
         self.assertEqual(sirbolta.locate(sirbolta.build(bytes(2047), 0), b"\0"), list(range(2047)))
         self.assertEqual(sirbolta.live_cuts(bytes(2047)), list(range(1, 2047)))
 
@@ -339,7 +358,8 @@ class Tables(unittest.TestCase):
         self.assertEqual(repr(self.table), "<sirbolta.Table of 12 words>")
 
     def test_each_method_is_the_function(self):
-        for service, arguments in [("check", ()), ("read", ()), ("extract", (1, 2)), ("count", (b"ab",)), ("locate", (b"ab",))]:
+        services = [("check", ()), ("read", ()), ("extract", (1, 2)), ("count", (b"ab",)), ("locate", (b"ab",)), ("lyndon_length", (1,)), ("lyndon_array", ())]
+        for service, arguments in services:
             self.assertEqual(getattr(self.table, service)(*arguments), getattr(sirbolta, service)(self.table, *arguments))
             with self.assertRaises(sirbolta.TableLength):
                 getattr(sirbolta.Table(b""), service)(*arguments)
@@ -417,13 +437,15 @@ class Lending(unittest.TestCase):
         words += b"longer"
 
     def test_a_buffer_is_given_back_though_the_error_is_kept(self):
-        for service, *arguments in [("check",), ("read",), ("extract", 0, 1), ("count", b"ab"), ("locate", b"ab")]:
+        services = [("check",), ("read",), ("extract", 0, 1), ("count", b"ab"), ("locate", b"ab"), ("lyndon_length", 0), ("lyndon_array",)]
+        for service, *arguments in services:
             for content in [b"\0" * 4, b"\0" * 7]:  # refused, and no whole words
                 self.given_back(getattr(sirbolta, service), bytearray(content), *arguments)
         words = bytes(self.table)
         self.given_back(sirbolta.read, mmap.mmap(-1, 4096))
         self.given_back(sirbolta.count, bytearray(words), "ab")
         self.given_back(sirbolta.extract, bytearray(words), 5, 0)
+        self.given_back(sirbolta.lyndon_length, bytearray(words), 4)
         self.given_back(sirbolta.check, array("i", [0]))
         self.given_back(sirbolta.Table, bytearray(7))
         self.given_back(sirbolta.build, array("I", [0]), 40)
@@ -491,6 +513,7 @@ class Stacks(unittest.TestCase):
         self.assertRaisesRegex(RuntimeError, "240 KiB of stack are needed, and this thread has 12[0-9] KiB in all", table.read)
         self.assertRaisesRegex(RuntimeError, "240 KiB of stack are needed, and this thread has 12[0-9] KiB in all", table.locate, b"a")
         self.assertEqual((table.check(), table.count(b"a"), table.extract(2046, 1)), (2049, 2047, b"a"))
+        self.assertEqual((table.lyndon_length(0), table.lyndon_array()), (1, [1] * 2047))
 
     def on_threads(self, stack, work):
         usual = threading.stack_size(stack)
@@ -546,7 +569,7 @@ class Examples(unittest.TestCase):
 
 
 if __name__ == "__main__":
-    FILE = sys.argv[1]
+    FILES = sys.argv[1:]
     report = io.StringIO()
     result = unittest.TextTestRunner(stream=report).run(unittest.defaultTestLoader.loadTestsFromModule(sys.modules[__name__]))
     if not result.wasSuccessful() or not AGREED:

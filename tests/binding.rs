@@ -1,4 +1,4 @@
-//! Tests the Rust module: every case of a vector file that calls a service, and every refusal by its name. `binding FILE`.
+//! Tests the Rust module: every case of vector files that calls a service, and every refusal by its name. `binding FILE..`.
 
 mod calls;
 #[path = "../bindings/rust/sirbolta.rs"]
@@ -10,21 +10,26 @@ use sirbolta::{Reading, Refusal, SAMPLES, TABLE, WORK};
 use vector_file::{cases, Test};
 
 fn main() {
-    let file = std::env::args().nth(1).expect("usage: binding FILE");
-    let cases = cases(&std::fs::read_to_string(file).unwrap()).unwrap();
+    let agreed: usize = std::env::args().skip(1).map(|file| agreeing(&file)).sum();
+    assert!(agreed > 0, "usage: binding FILE..");
+    every_refusal();
+    largest();
+    println!("rust module: {agreed} cases agree, 9 refusals by name");
+}
+
+/// How many cases of a file call a service. All of them agree, or the run ends.
+fn agreeing(file: &str) -> usize {
     let mut agreed = 0;
-    for case in &cases {
+    for case in cases(&std::fs::read_to_string(file).unwrap()).unwrap() {
         if let Test::Service { call, lent, want } = &case.test {
             if let Some(wrong) = difference(&serve(call, lent), want) {
-                println!("rust module: case {}: {wrong}", case.number);
+                println!("rust module: {file}: case {}: {wrong}", case.number);
                 std::process::exit(1);
             }
             agreed += 1;
         }
     }
-    every_refusal();
-    largest();
-    println!("rust module: {agreed} cases agree, 9 refusals by name");
+    agreed
 }
 
 /// What the module answers and leaves.
@@ -38,6 +43,8 @@ fn serve(call: &Call, lent: &Slices) -> (Outcome, Slices) {
         Call::Count { table, pattern } => sirbolta::count(table, pattern, work),
         Call::Locate { table, pattern } => sirbolta::locate(table, pattern, work, words),
         Call::Cuts { pattern } => sirbolta::live_cuts(pattern, words),
+        Call::LyndonLength { table, position } => sirbolta::lyndon_length(table, *position, work),
+        Call::LyndonArray { table } => sirbolta::lyndon_array(table, work, words),
         Call::Read { table } => return (outcome(sirbolta::read(table, work, bytes)), left),
     };
     (outcome(answer.map(|samples| Reading { samples, chair: 0 })), left)
@@ -50,7 +57,7 @@ fn outcome(answer: Result<Reading, Refusal>) -> Outcome {
     }
 }
 
-/// The largest table, and the most positions, in slices of the lengths that the module names.
+/// The largest table, the most positions, and the most and longest Lyndon words, in slices of the lengths that the module names.
 fn largest() {
     let mut work = vec![7; WORK];
     let mut result = vec![7; TABLE];
@@ -59,10 +66,13 @@ fn largest() {
     assert_eq!(sirbolta::build(&text, 65535, &mut work, &mut result), Ok(4608));
     assert_eq!(sirbolta::read(&result, &mut work, &mut bytes), Ok(Reading { samples: 2047, chair: 65535 }));
     assert_eq!(bytes, text);
+    let mut entries = vec![7; SAMPLES];
+    assert_eq!(sirbolta::lyndon_length(&result, 0, &mut work), Ok(2047));
+    assert_eq!(sirbolta::lyndon_array(&result, &mut work, &mut entries), Ok(2047));
+    assert!(entries.iter().copied().eq((8..=2047).rev().chain([1; 7])));
     let words = sirbolta::build(&[0; 2047], 0, &mut work, &mut result).unwrap();
-    let mut positions = vec![7; SAMPLES];
-    assert_eq!(sirbolta::locate(&result[..words], &[0], &mut work, &mut positions), Ok(2047));
-    assert!(positions.iter().copied().eq(0..2047));
+    assert_eq!(sirbolta::locate(&result[..words], &[0], &mut work, &mut entries), Ok(2047));
+    assert!(entries.iter().copied().eq(0..2047));
 }
 
 fn every_refusal() {
@@ -98,6 +108,8 @@ fn every_refusal() {
         assert_eq!(name.number() as usize, i + 1);
         assert!(name.to_string().starts_with(&format!("refused {}: ", i + 1)));
     }
+    assert_eq!(sirbolta::lyndon_length(&table, 4, &mut work), Err(Refusal::RangePastEnd));
+    assert_eq!(sirbolta::lyndon_array(&table, &mut work, &mut result[..3]), Err(Refusal::ResultTooShort { needed: 4 }));
     assert_eq!(sirbolta::read(&table, &mut work, &mut bytes), Ok(Reading { samples: 4, chair: 40 }));
     assert_eq!(&bytes[..5], b"aaaa\x07");
 }

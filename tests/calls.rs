@@ -10,6 +10,8 @@ pub enum Call {
     Count { table: Vec<u32>, pattern: Vec<u8> },
     Locate { table: Vec<u32>, pattern: Vec<u8> },
     Cuts { pattern: Vec<u8> },
+    LyndonLength { table: Vec<u32>, position: usize },
+    LyndonArray { table: Vec<u32> },
 }
 
 /// The slices lent to a call. The result slice is the one in the service's unit, words or bytes; a slice that the service does not take is empty.
@@ -29,7 +31,7 @@ pub struct Outcome {
     pub chair: u32,
 }
 
-pub const SERVICES: [&str; 7] = ["build", "check", "read", "extract", "count", "locate", "cuts"];
+pub const SERVICES: [&str; 9] = ["build", "check", "read", "extract", "count", "locate", "cuts", "lyndon length", "lyndon array"];
 
 impl Call {
     /// The service's place in `SERVICES`.
@@ -42,6 +44,8 @@ impl Call {
             Call::Count { .. } => 4,
             Call::Locate { .. } => 5,
             Call::Cuts { .. } => 6,
+            Call::LyndonLength { .. } => 7,
+            Call::LyndonArray { .. } => 8,
         }
     }
 }

@@ -79,7 +79,7 @@ impl Comparison {
         self.tally
     }
 
-    /// Every text of two values up to 7 samples, with every pattern up to 4, and live cuts up to 10.
+    /// Every text of two values up to 7 samples, with every pattern up to 4 and every position, and live cuts and Lyndon arrays up to 10.
     fn every_small_text(&mut self) {
         for text in (0..=7).flat_map(every_text) {
             let table = self.table_of(&text, 40);
@@ -88,6 +88,13 @@ impl Comparison {
                 self.compare_once(Call::Count { table: table.clone(), pattern: pattern.clone() });
                 self.compare_once(Call::Locate { table: table.clone(), pattern });
             }
+            for position in 0..=text.len() {
+                self.compare_once(Call::LyndonLength { table: table.clone(), position });
+            }
+        }
+        for text in (0..=10).flat_map(every_text) {
+            let table = self.table_of(&text, 40);
+            self.compare_once(Call::LyndonArray { table });
         }
         (1..=10).flat_map(every_text).for_each(|pattern| self.compare_once(Call::Cuts { pattern }));
     }
@@ -113,7 +120,7 @@ impl Comparison {
         }
     }
 
-    /// A part, a count, a list and live cuts.
+    /// A part, a count, a list, live cuts, a Lyndon length and all of them.
     fn search(&mut self, table: &[u32], text: &[u8]) {
         let start = self.generator.bound(text.len());
         let length = self.generator.bound(text.len().saturating_sub(start));
@@ -122,6 +129,9 @@ impl Comparison {
         self.compare(Call::Count { table: table.to_vec(), pattern: pattern.clone() });
         self.compare(Call::Locate { table: table.to_vec(), pattern: pattern.clone() });
         self.compare(Call::Cuts { pattern });
+        let position = self.generator.bound(text.len());
+        self.compare(Call::LyndonLength { table: table.to_vec(), position });
+        self.compare(Call::LyndonArray { table: table.to_vec() });
     }
 
     /// The table of a text as the library builds it, which is compared too.
@@ -151,9 +161,13 @@ impl Comparison {
     fn lent(&mut self, call: &Call, work: usize, result: usize) -> Slices {
         let g = &mut self.generator;
         match call {
-            Call::Build { .. } | Call::Locate { .. } => Slices { work: g.words(work), words: g.words(result), bytes: vec![] },
+            Call::Build { .. } | Call::Locate { .. } | Call::LyndonArray { .. } => {
+                Slices { work: g.words(work), words: g.words(result), bytes: vec![] }
+            }
             Call::Read { .. } | Call::Extract { .. } => Slices { work: g.words(work), words: vec![], bytes: g.bytes(result) },
-            Call::Check { .. } | Call::Count { .. } => Slices { work: g.words(work), words: vec![], bytes: vec![] },
+            Call::Check { .. } | Call::Count { .. } | Call::LyndonLength { .. } => {
+                Slices { work: g.words(work), words: vec![], bytes: vec![] }
+            }
             Call::Cuts { .. } => Slices { work: vec![], words: g.words(result), bytes: vec![] },
         }
     }

@@ -27,6 +27,8 @@ pub fn serve(call: &Call, lent: &Slices, null: bool) -> Result<(Outcome, Slices)
             Call::Count { .. } => found(sirbolta_count(t, tn, s, sn, w, wn)),
             Call::Locate { .. } => found(sirbolta_locate(t, tn, s, sn, w, wn, r, rn)),
             Call::Cuts { .. } => replied(sirbolta_live_cuts(s, sn, r, rn)),
+            Call::LyndonLength { position, .. } => replied(sirbolta_lyndon_length(t, tn, *position, w, wn)),
+            Call::LyndonArray { .. } => replied(sirbolta_lyndon_array(t, tn, w, wn, r, rn)),
         }
     };
     if text_lent.taken_back("samples")? != text || table_lent.taken_back("table")? != table {
@@ -43,6 +45,7 @@ fn inputs(call: &Call) -> (&[u8], &[u32]) {
         Call::Check { table } | Call::Read { table } | Call::Extract { table, .. } => (&[], table),
         Call::Count { table, pattern } | Call::Locate { table, pattern } => (pattern, table),
         Call::Cuts { pattern } => (pattern, &[]),
+        Call::LyndonLength { table, .. } | Call::LyndonArray { table } => (&[], table),
     }
 }
 

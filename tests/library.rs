@@ -66,4 +66,13 @@ extern "C" {
         result_len: usize,
     ) -> SearchReply;
     pub fn sirbolta_live_cuts(pattern: *const u8, pattern_len: usize, result: *mut u32, result_len: usize) -> Reply;
+    pub fn sirbolta_lyndon_length(table: *const u32, table_len: usize, position: usize, work: *mut u32, work_len: usize) -> Reply;
+    pub fn sirbolta_lyndon_array(
+        table: *const u32,
+        table_len: usize,
+        work: *mut u32,
+        work_len: usize,
+        result: *mut u32,
+        result_len: usize,
+    ) -> Reply;
 }

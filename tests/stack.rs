@@ -22,7 +22,7 @@ fn calls() -> usize {
     let rising: Vec<u8> = (0..2047u32).map(|i| (i / 8) as u8).collect();
     assert_eq!(table_of(&rising).len(), 4608);
     let neither = (0..2047u32).map(|i| (i * i * 40503 >> 7) as u8).collect();
-    let served = |text: &Vec<u8>| check_and_read(text) + extract(text) + search(text, 1) + search(text, 2) + cut(text);
+    let served = |text: &Vec<u8>| check_and_read(text) + extract(text) + search(text, 1) + search(text, 2) + cut(text) + longest(text);
     [left, right, rising, neither].iter().map(served).sum()
 }
 
@@ -95,4 +95,27 @@ fn cut(pattern: &[u8]) -> usize {
     assert_eq!((cut.number, cut.count as usize), (0, live.len()));
     assert_eq!(result, live);
     1
+}
+
+/// Lists the lengths of the longest Lyndon words, each up to the first smaller suffix, and answers the first, one in the middle and the last; one position
+/// more is refused.
+fn longest(text: &[u8]) -> usize {
+    let table = table_of(text);
+    let to_smaller = |i: usize| (i + 1..text.len()).find(|&j| text[j..] < text[i..]).unwrap_or(text.len()) - i;
+    let lengths: Vec<u32> = (0..text.len()).map(|i| to_smaller(i) as u32).collect();
+    let mut work = vec![7u32; 16384];
+    let mut result = vec![7u32; lengths.len()];
+    let (t, m, w, n) = (table.as_ptr(), table.len(), work.as_mut_ptr(), work.len());
+    let all = unsafe { sirbolta_lyndon_array(t, m, w, n, result.as_mut_ptr(), result.len()) };
+    assert_eq!((all.number, all.count as usize), (0, lengths.len()));
+    assert_eq!(result, lengths);
+    let positions = [0, 1023, 2046, 2047];
+    for position in positions {
+        let reply = unsafe { sirbolta_lyndon_length(t, m, position, w, n) };
+        match lengths.get(position) {
+            Some(&length) => assert_eq!((reply.number, reply.count), (0, length as u64)),
+            None => assert_eq!((reply.number, reply.count), (8, 0)),
+        }
+    }
+    1 + positions.len()
 }

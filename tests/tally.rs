@@ -26,7 +26,7 @@ impl Tally {
     pub fn print(&self) {
         for (service, calls) in SERVICES.iter().zip(&self.calls) {
             let refused: Vec<String> = (1..10).filter(|&n| calls[n] > 0).map(|n| format!("{n}: {}", calls[n])).collect();
-            println!("  {service:8}{:7} calls, refused by {}", calls.iter().sum::<usize>(), refused.join(", "));
+            println!("  {service:13}{:7} calls, refused by {}", calls.iter().sum::<usize>(), refused.join(", "));
         }
     }
 }

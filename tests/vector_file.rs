@@ -52,7 +52,7 @@ fn items<'a>(lines: &[&'a str]) -> Result<Items<'a>, String> {
 }
 
 fn test(mut items: Items) -> Result<Test, String> {
-    if take(&mut items, "stage")? != "0" {
+    if !matches!(take(&mut items, "stage")?, "0" | "1") {
         return Err("an unknown stage".into());
     }
     let test = match take(&mut items, "call")? {
@@ -90,6 +90,8 @@ fn call(service: &str, items: &mut Items) -> Result<Call, String> {
                 "part" => Call::Extract { table, start: number(items, "arg start")?, length: number(items, "arg length")? },
                 "count" => Call::Count { table, pattern: entries(take(items, "arg motif")?)? },
                 "list" => Call::Locate { table, pattern: entries(take(items, "arg motif")?)? },
+                "longest" => Call::LyndonLength { table, position: number(items, "arg position")? },
+                "longest_all" => Call::LyndonArray { table },
                 _ => return Err(format!("an unknown call: {service}")),
             }
         }
@@ -99,9 +101,9 @@ fn call(service: &str, items: &mut Items) -> Result<Call, String> {
 /// The unit of the service's result slice, if it has one.
 fn unit(call: &Call) -> Option<&'static str> {
     match call {
-        Call::Build { .. } | Call::Locate { .. } | Call::Cuts { .. } => Some("words"),
+        Call::Build { .. } | Call::Locate { .. } | Call::Cuts { .. } | Call::LyndonArray { .. } => Some("words"),
         Call::Read { .. } | Call::Extract { .. } => Some("bytes"),
-        Call::Check { .. } | Call::Count { .. } => None,
+        Call::Check { .. } | Call::Count { .. } | Call::LyndonLength { .. } => None,
     }
 }
 

@@ -1,4 +1,4 @@
-//! Runs the cases of a vector file on the library and on a program: `vectors FILE PROGRAM`. A case that disagrees, is of an unknown kind or wants
+//! Runs the cases of vector files on the library and on a program: `vectors PROGRAM FILE..`. A case that disagrees, is of an unknown kind or wants
 //! a program that is not there is printed and fails the run.
 
 mod calls;
@@ -13,30 +13,32 @@ use std::process::{exit, Command, Stdio};
 use vector_file::{cases, Case, Test};
 
 fn main() {
-    let arguments: Vec<String> = std::env::args().collect();
-    let [_, file, program] = &arguments[..] else {
-        println!("usage: vectors FILE PROGRAM");
+    let arguments: Vec<String> = std::env::args().skip(1).collect();
+    let Some((program, files)) = arguments.split_first().filter(|(_, files)| !files.is_empty()) else {
+        println!("usage: vectors PROGRAM FILE..");
         exit(2);
     };
-    match run(file, program) {
-        Ok(counts) => println!("vectors: {counts}"),
-        Err(wrong) => {
-            println!("vectors: {wrong}");
-            exit(1);
+    for file in files {
+        match run(file, program) {
+            Ok(counts) => println!("vectors: {file}: {counts}"),
+            Err(wrong) => {
+                println!("vectors: {file}: {wrong}");
+                exit(1);
+            }
         }
     }
 }
 
 /// How many cases agree, of which service.
 fn run(file: &str, program: &str) -> Result<String, String> {
-    let cases = cases(&std::fs::read_to_string(file).map_err(|wrong| format!("{file}: {wrong}"))?)?;
+    let cases = cases(&std::fs::read_to_string(file).map_err(|wrong| wrong.to_string())?)?;
     let mut counts = [0; SERVICES.len() + 1];
     for case in &cases {
         let service = agrees(case, Path::new(program)).map_err(|wrong| format!("case {}: {wrong}", case.number))?;
         counts[service] += 1;
     }
     if cases.is_empty() {
-        return Err(format!("{file} has no case"));
+        return Err("no case".into());
     }
     let names = SERVICES.iter().chain(&["program"]);
     let each: Vec<String> = names.zip(counts).map(|(name, count)| format!("{name} {count}")).collect();

@@ -18,7 +18,7 @@ pub const INTERFACE: u32 = 1;
 /// The words that a work slice needs.
 pub const WORK: usize = 16_384;
 
-/// The most samples of a text or a pattern: no result of `read`, `extract`, `locate` or `live_cuts` has more entries.
+/// The most samples of a text or a pattern: no result but that of `build` has more entries.
 pub const SAMPLES: usize = 2_047;
 
 /// The most words of a table.
@@ -92,6 +92,18 @@ pub fn locate(table: &[u32], pattern: &[u8], work: &mut [u32], result: &mut [u32
 /// Writes the live cuts of the pattern, rising, and answers how many there are.
 pub fn live_cuts(pattern: &[u8], result: &mut [u32]) -> Result<usize, Refusal> {
     counted(unsafe { sirbolta_live_cuts(pattern.as_ptr(), pattern.len(), result.as_mut_ptr(), result.len()) })
+}
+
+/// The length of the longest Lyndon word that begins at `position` in the text; `RangePastEnd` where it has no such position. A Lyndon word is not empty,
+/// and smaller than each of its proper suffixes but the empty one.
+pub fn lyndon_length(table: &[u32], position: usize, work: &mut [u32]) -> Result<usize, Refusal> {
+    counted(unsafe { sirbolta_lyndon_length(table.as_ptr(), table.len(), position, work.as_mut_ptr(), work.len()) })
+}
+
+/// Writes the length of the longest Lyndon word that begins at each position of the text, and answers how many positions there are.
+pub fn lyndon_array(table: &[u32], work: &mut [u32], result: &mut [u32]) -> Result<usize, Refusal> {
+    let (w, n, r, m) = (work.as_mut_ptr(), work.len(), result.as_mut_ptr(), result.len());
+    counted(unsafe { sirbolta_lyndon_array(table.as_ptr(), table.len(), w, n, r, m) })
 }
 
 impl Refusal {
@@ -207,4 +219,6 @@ unsafe extern "C" {
     fn sirbolta_count(table: *const u32, table_len: usize, pattern: *const u8, pattern_len: usize, work: *mut u32, work_len: usize) -> SearchReply;
     fn sirbolta_locate(table: *const u32, table_len: usize, pattern: *const u8, pattern_len: usize, work: *mut u32, work_len: usize, result: *mut u32, result_len: usize) -> SearchReply;
     fn sirbolta_live_cuts(pattern: *const u8, pattern_len: usize, result: *mut u32, result_len: usize) -> Reply;
+    fn sirbolta_lyndon_length(table: *const u32, table_len: usize, position: usize, work: *mut u32, work_len: usize) -> Reply;
+    fn sirbolta_lyndon_array(table: *const u32, table_len: usize, work: *mut u32, work_len: usize, result: *mut u32, result_len: usize) -> Reply;
 }

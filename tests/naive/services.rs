@@ -1,7 +1,7 @@
 //! What each service answers and leaves in the slices: of the refusals that concern it, the lowest number that is met.
 
 use super::tables::{bad_word, drive_of, table_of};
-use super::words::{live_cuts, occurrences};
+use super::words::{live_cuts, lyndon_array, occurrences};
 use crate::calls::*;
 
 /// What a table is: the lowest index of a bad word, the table of no drive, or that of a drive and chair number.
@@ -12,11 +12,12 @@ enum Verdict {
     Drive(Vec<u8>, u16),
 }
 
-/// The answers, with the last table judged and the last one built kept, so that many calls on one table judge it once.
+/// The answers, with the last table judged, the last one built and the last drive's Lyndon array kept, so that many calls on one table judge it once.
 #[derive(Default)]
 pub struct Naive {
     judged: Option<(Vec<u32>, Verdict)>,
     built: Option<(Vec<u8>, u16, Vec<u32>)>,
+    lengths: Option<(Vec<u8>, Vec<usize>)>,
 }
 
 /// What a service writes.
@@ -68,17 +69,20 @@ impl Naive {
             7 => matches!(self.verdict(table(call)), Verdict::Foreign),
             _ => match call {
                 Call::Extract { start, length, .. } => *start as u128 + *length as u128 > self.drive(call).len() as u128,
+                Call::LyndonLength { position, .. } => *position >= self.drive(call).len(),
                 _ => false,
             },
         };
         met.then_some(0)
     }
 
-    /// Success gives the number of entries written; checking gives the rules, counting the finds, and reading back adds the chair number.
+    /// Success gives the number of entries written; checking gives the rules, counting the finds, a Lyndon length itself, and reading back adds the chair
+    /// number.
     fn success(&mut self, call: &Call, entries: usize) -> Outcome {
         let (count, chair) = match call {
             Call::Check { table } => (table.len() / 2, 0),
             Call::Count { pattern, .. } => (occurrences(pattern, &self.drive(call)).len(), 0),
+            Call::LyndonLength { position, .. } => (self.lyndon_array(call)[*position], 0),
             Call::Read { table } => (entries, self.chair(table)),
             _ => (entries, 0),
         };
@@ -92,7 +96,8 @@ impl Naive {
             Call::Extract { start, length, .. } => Written::Bytes(self.drive(call)[*start..*start + *length].to_vec()),
             Call::Locate { pattern, .. } => Written::Words(as_words(&occurrences(pattern, &self.drive(call)))),
             Call::Cuts { pattern } => Written::Words(as_words(&live_cuts(pattern))),
-            Call::Check { .. } | Call::Count { .. } => Written::Nothing,
+            Call::LyndonArray { .. } => Written::Words(as_words(&self.lyndon_array(call))),
+            Call::Check { .. } | Call::Count { .. } | Call::LyndonLength { .. } => Written::Nothing,
         }
     }
 
@@ -101,6 +106,18 @@ impl Naive {
         match self.verdict(table(call)) {
             Verdict::Drive(text, _) => text,
             _ => vec![],
+        }
+    }
+
+    fn lyndon_array(&mut self, call: &Call) -> Vec<usize> {
+        let drive = self.drive(call);
+        match &self.lengths {
+            Some((text, lengths)) if *text == drive => lengths.clone(),
+            _ => {
+                let lengths = lyndon_array(&drive);
+                self.lengths = Some((drive, lengths.clone()));
+                lengths
+            }
         }
     }
 
@@ -144,7 +161,7 @@ fn concerns(call: &Call, number: u32) -> bool {
         2 | 3 => matches!(call, Call::Count { .. } | Call::Locate { .. } | Call::Cuts { .. }),
         4 => !matches!(call, Call::Cuts { .. }),
         5..=7 => !matches!(call, Call::Build { .. } | Call::Cuts { .. }),
-        _ => matches!(call, Call::Extract { .. }),
+        _ => matches!(call, Call::Extract { .. } | Call::LyndonLength { .. }),
     }
 }
 
@@ -181,6 +198,6 @@ fn table(call: &Call) -> &[u32] {
     match call {
         Call::Build { .. } | Call::Cuts { .. } => &[],
         Call::Check { table } | Call::Read { table } | Call::Extract { table, .. } => table,
-        Call::Count { table, .. } | Call::Locate { table, .. } => table,
+        Call::Count { table, .. } | Call::Locate { table, .. } | Call::LyndonLength { table, .. } | Call::LyndonArray { table } => table,
     }
 }

@@ -1,4 +1,4 @@
-//! Strings: which is smaller, Lyndon words, the standard factorization, live cuts and occurrences.
+//! Strings: which is smaller, Lyndon words, the longest of them from a position, the standard factorization, live cuts and occurrences.
 
 use std::cmp::Ordering;
 
@@ -20,6 +20,17 @@ fn first_difference<T: Ord>(x: &[T], y: &[T]) -> Option<Ordering> {
 /// Not empty, and smaller than each of its proper suffixes but the empty one.
 pub fn is_lyndon<T: Ord>(w: &[T]) -> bool {
     !w.is_empty() && (1..w.len()).all(|i| smaller(w, &w[i..]))
+}
+
+/// The greatest k for which the first k symbols are a Lyndon word.
+fn longest_by_wording<T: Ord>(w: &[T]) -> usize {
+    (1..=w.len()).rev().find(|&k| is_lyndon(&w[..k])).unwrap()
+}
+
+/// The length of the longest Lyndon word that begins at each position of a string.
+pub fn lyndon_array<T: Ord>(s: &[T]) -> Vec<usize> {
+    let common = Common::new(s);
+    (0..s.len()).map(|i| common.longest(i)).collect()
 }
 
 /// Where the longest proper suffix that is a Lyndon word begins.
@@ -90,6 +101,17 @@ impl<'a, T: Ord> Common<'a, T> {
             assert_eq!(least, start + split_by_wording(&self.string[start..end]));
         }
         least
+    }
+
+    /// How long the longest Lyndon word is that begins at i: it reaches to the first place from which the rest of the string is smaller than from i.
+    fn longest(&self, i: usize) -> usize {
+        let n = self.string.len();
+        let smaller = |j| self.first_difference(j, i, n).map_or(true, |order| order == Ordering::Less);
+        let length = (i + 1..n).find(|&j| smaller(j)).unwrap_or(n) - i;
+        if n - i <= SHORT {
+            assert_eq!(length, longest_by_wording(&self.string[i..]));
+        }
+        length
     }
 
     fn live_cuts(&self) -> Vec<usize> {

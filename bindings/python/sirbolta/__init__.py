@@ -44,8 +44,8 @@ else:
     Buffer = object
 
 __all__ = [
-    "INTERFACE", "Table", "build", "check", "read", "extract", "count", "count_each", "locate", "live_cuts", "Refusal", "TextTooLong", "PatternEmpty",
-    "PatternTooLong", "WorkTooShort", "TableLength", "BadWord", "NotATable", "RangePastEnd", "ResultTooShort",
+    "INTERFACE", "Table", "build", "check", "read", "extract", "count", "count_each", "locate", "live_cuts", "lyndon_length", "lyndon_array", "Refusal",
+    "TextTooLong", "PatternEmpty", "PatternTooLong", "WorkTooShort", "TableLength", "BadWord", "NotATable", "RangePastEnd", "ResultTooShort",
 ]
 
 Samples = Buffer
@@ -54,10 +54,10 @@ Words = Union["Table", Buffer, Sequence[int]]
 _SAMPLES = 2_047
 _TABLE = 4_608
 _Bytes = ctypes.c_uint8 * _SAMPLES
-_Positions = ctypes.c_uint32 * _SAMPLES
+_Numbers = ctypes.c_uint32 * _SAMPLES
 _TableWords = ctypes.c_uint32 * _TABLE
 _AT_ONCE = 100  # tables that `count_each` hands over by one call: some 2 ms for 1,400 samples each, in which no signal is looked at
-_LARGEST = 2**64 - 1  # of a start or a length; no text reaches as far, so a larger number is refused alike
+_LARGEST = 2**64 - 1  # of a start, a length or a position; no text reaches as far, so a larger number is refused alike
 
 
 class Table:
@@ -106,6 +106,14 @@ class Table:
     def locate(self, pattern: Samples) -> list[int]:
         """The positions at which the pattern begins in its text: `sirbolta.locate`."""
         return locate(self, pattern)
+
+    def lyndon_length(self, position: int) -> int:
+        """The length of the longest Lyndon word that begins at a position of its text: `sirbolta.lyndon_length`."""
+        return lyndon_length(self, position)
+
+    def lyndon_array(self) -> list[int]:
+        """The length of the longest Lyndon word that begins at each position of its text: `sirbolta.lyndon_array`."""
+        return lyndon_array(self)
 
     def __bytes__(self) -> bytes:
         return self._bytes
@@ -234,7 +242,7 @@ def locate(table: Words, pattern: Samples) -> list[int]:
     [0, 1, 2]
     """
     _enough_stack()
-    samples, result = _samples(pattern), _Positions()
+    samples, result = _samples(pattern), _Numbers()
     return result[: _counted(_reply_to(table, _library.sirbolta_locate, samples, len(samples), _work(), _WORK, result, _SAMPLES))]
 
 
@@ -245,8 +253,29 @@ def live_cuts(pattern: Samples) -> list[int]:
     [1, 3]
     """
     samples = _samples(pattern)
-    result = _Positions()
+    result = _Numbers()
     return result[: _counted(_library.sirbolta_live_cuts(samples, len(samples), result, _SAMPLES))]
+
+
+def lyndon_length(table: Words, position: int) -> int:
+    """The length of the longest Lyndon word that begins at a position of the text. Refusals: those of `check`; RangePastEnd where it has no such position.
+
+    A Lyndon word is not empty, and smaller than each of its proper suffixes but the empty one.
+
+    >>> lyndon_length(build(b"abab", chair=40), position=2)
+    2
+    """
+    return _counted(_reply_to(table, _library.sirbolta_lyndon_length, min(_number(position, "position"), _LARGEST), _work(), _WORK))
+
+
+def lyndon_array(table: Words) -> list[int]:
+    """The length of the longest Lyndon word that begins at each position of the text. Refusals: those of `check`.
+
+    >>> lyndon_array(build(b"abab", chair=40))
+    [2, 1, 2, 1]
+    """
+    result = _Numbers()
+    return result[: _counted(_reply_to(table, _library.sirbolta_lyndon_array, _work(), _WORK, result, _SAMPLES))]
 
 
 def _counted(reply: _Reply | _SearchReply) -> int:
