@@ -1,6 +1,6 @@
 //! One call of a service under callgrind: `bench SIDE SERVICE FAMILY SAMPLES [PATTERN]`. SIDE is `library` or `rust`; SERVICE is `build`,
 //! `check`, `read`, `copied` (reading, beside a Rust that copies the text), `extract` (the whole text), `count`, `locate`, `cuts` (the live cuts of
-//! the pattern), or `doubling`: the check of a table of SAMPLES rules that double. FAMILY 100 + m is a block of m random bytes, repeated. The pattern is the PATTERN samples in the middle of the text. It
+//! the pattern), `lyndon_length` (at the first position), `lyndon_array`, or `doubling`: the check of a table of SAMPLES rules that double. FAMILY 100 + m is a block of m random bytes, repeated. The pattern is the PATTERN samples in the middle of the text. It
 //! prints the answer and a checksum of each lent slice afterwards, which `bench/run` compares between the sides. The lent slices hold other
 //! values before the call.
 
@@ -53,6 +53,8 @@ fn measured_library(given: &Given, lent: &mut Lent) -> Answer {
             "count" => found(sirbolta_count(table, m, pattern, p, work, w)),
             "locate" => found(sirbolta_locate(table, m, pattern, p, work, w, words, k)),
             "cuts" => replied(sirbolta_live_cuts(pattern, p, words, k)),
+            "lyndon_length" => replied(sirbolta_lyndon_length(table, m, 0, work, w)),
+            "lyndon_array" => replied(sirbolta_lyndon_array(table, m, work, w, words, k)),
             service => panic!("no service {service}"),
         }
     }
@@ -80,6 +82,8 @@ fn measured_rust(given: &Given, lent: &mut Lent) -> Answer {
         "count" => search::count(table, pattern, work),
         "locate" => search::locate(table, pattern, work, words),
         "cuts" => search::live_cuts(pattern, words),
+        "lyndon_length" => tables::lyndon_length(table, 0, work),
+        "lyndon_array" => tables::lyndon_array(table, work, words),
         service => panic!("no service {service}"),
     }
 }

@@ -1,4 +1,4 @@
-//! The library's algorithms on tables in Rust: checking, reading back, reading a part.
+//! The library's algorithms on tables in Rust: checking, reading back, reading a part, the longest Lyndon words.
 
 use crate::baseline::*;
 
@@ -316,4 +316,35 @@ fn copy(ranks: &[u32], result: &mut [u8]) {
         put(result, i, (at(ranks, i) - 1) as u8);
         i += 1;
     }
+}
+
+/// The length of the longest Lyndon word that begins at a position of a table's text.
+#[inline(never)]
+pub fn lyndon_length(table: &[u32], position: usize, work: &mut [u32]) -> Answer {
+    with_loaded(table, work, |work| {
+        let n = text_length(table, work);
+        if n <= position {
+            return refused(8, 0);
+        }
+        ends(work, n + 1);
+        done(at(work, LONGEST + 1 + position) as usize, 0)
+    })
+}
+
+/// These lengths at all positions.
+#[inline(never)]
+pub fn lyndon_array(table: &[u32], work: &mut [u32], result: &mut [u32]) -> Answer {
+    with_loaded(table, work, |work| {
+        let n = text_length(table, work);
+        ends(work, n + 1);
+        if result.len() < n {
+            return refused(9, n);
+        }
+        let mut i = 0;
+        while i < n {
+            put(result, i, at(work, LONGEST + 1 + i));
+            i += 1;
+        }
+        done(n, 0)
+    })
 }
