@@ -1,5 +1,7 @@
 // A naive scanner, written apart from the library: the pattern is compared with the text at every place, sample by sample. The program
-// `trials` runs it beside the library's search.
+// `trials` runs it beside the library's search, and the naive Lyndon words of `words` beside the Lyndon array.
+pub mod words;
+
 ghost use mathlib.Core.Path.{_≡_};
 ghost use mathlib.Core.Bool.{cond};
 ghost use mathlib.Core.List.{[], _∷_};

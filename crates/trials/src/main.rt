@@ -1,9 +1,11 @@
 // The program `trials`: each line of its input has a drive and a motif, with a space between them. The drive is stored and the motif
-// searched, and what the library lists is compared with what the naive scanner lists; the file `stdout` has what is printed.
+// searched, and what the library lists is compared with what the naive scanner lists; so is the drive's Lyndon array, entry by entry, with
+// what single calls answer and with what the naive side says. The file `stdout` has what is printed.
 use definitions::Answer;
 use libc::STDIN_FILENO;
 use libc::STDOUT_FILENO;
 use naive::scan;
+use naive::words::longest_at;
 use slices::equal;
 use slices::wide;
 ghost use Prim.Native.Nat.{_≤_};
@@ -51,7 +53,7 @@ fn try_line(line: &[u8]) {
     print(b"\n");
 }
 
-// Stores a drive and prints the number of its rules, then searches. A drive of this program has at most 63 samples.
+// Stores a drive and prints the number of its rules, then searches and measures. A drive of this program has at most 63 samples.
 fn store<'a>(drive: &'a [u8], motif: &'a [u8]) {
     if 63 < drive.len() {
         return;
@@ -65,6 +67,7 @@ fn store<'a>(drive: &'a [u8], motif: &'a [u8]) {
     if n <= 254 {
         print_number(b" rules ", n / 2);
         search(&table[0..n], drive, motif);
+        measure(&table[0..n], drive);
     }
 }
 
@@ -80,7 +83,7 @@ fn search<'a>(table: &'a [u32], drive: &'a [u8], motif: &'a [u8])
     match a {
         Answer::Refused(number, _) => print_number(b" refused ", wide(number)),
         Answer::Done(n) => {
-            print_places(&found, n);
+            print_list(b" found", &found, n);
             if scan(motif, drive, &mut scanned) == n && equal(&found, &scanned) {
                 print(b" by both");
             }
@@ -88,9 +91,51 @@ fn search<'a>(table: &'a [u32], drive: &'a [u8], motif: &'a [u8])
     }
 }
 
-// Prints the first n places of a list.
-fn print_places(list: &[u32; 64], n: usize) {
-    print(b" found");
+// Prints the Lyndon array, and whether single calls and the naive side have the same lengths.
+fn measure<'a>(table: &'a [u32], drive: &'a [u8]) {
+    let mut work = [7u32; 16384];
+    let mut lengths = [7u32; 64];
+    let a = index::lyndon_array(table, &mut work, &mut lengths);
+    match a {
+        Answer::Refused(number, _) => print_number(b" refused ", wide(number)),
+        Answer::Done(n) => {
+            print_list(b" lengths", &lengths, n);
+            if n == drive.len() && all_agree(&lengths, table, drive) {
+                print(b" by all");
+            }
+        }
+    }
+}
+
+// Whether each length is what a single call answers for its position, and what the naive side says.
+fn all_agree<'a>(lengths: &'a [u32; 64], table: &'a [u32], drive: &'a [u8]) -> bool {
+    let mut i = 0;
+    while i < drive.len() {
+        let n = wide(at(lengths, i));
+        if n != length_at(table, i) {
+            return false;
+        }
+        if n != longest_at(drive, i) {
+            return false;
+        }
+        i += 1;
+    }
+    true
+}
+
+// What a single call answers for position i; 0, which is no length, if it refuses.
+fn length_at(table: &[u32], i: usize) -> usize {
+    let mut work = [7u32; 16384];
+    let a = index::lyndon_length(table, i, &mut work);
+    match a {
+        Answer::Refused(_, _) => 0,
+        Answer::Done(n) => n,
+    }
+}
+
+// Prints bytes and the first n entries of a list.
+fn print_list(name: &[u8], list: &[u32; 64], n: usize) {
+    print(name);
     let mut i = 0;
     while i < n {
         print_number(b" ", wide(at(list, i)));
@@ -98,7 +143,7 @@ fn print_places(list: &[u32; 64], n: usize) {
     }
 }
 
-// Place i of a list, where it has one.
+// Entry i of a list, where it has one.
 fn at(list: &[u32; 64], i: usize) -> u32 {
     if i < 64 { list[i] } else { 0 }
 }

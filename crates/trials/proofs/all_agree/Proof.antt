@@ -1,0 +1,18 @@
+-- `all_agree` stays in the drive.
+use Prim.Native.Nat.{_≤_, _-_}
+use native.Mathlib.Omega.{arith}
+use lib.ListN.{length}
+use Rattle.trials.proofs.all_agree.Statement.{statement}
+use Rattle.trials.proofs.all_agree.Tie as tie
+
+abbrev Inv-loop : tie.InvT-loop
+Inv-loop lengths table drive i₀ i = 0 ≤ i
+
+abbrev μ-loop : tie.MeasureT-loop
+μ-loop lengths table drive i₀ i = length drive - i
+
+pub all-agree-spec : {M : Type 1} → statement M
+all-agree-spec =
+    tie.close
+    (tie.spec Inv-loop μ-loop (λ c. omega arith) (λ c κs. tt) (λ c κs. tt) (λ c κs. tt) (λ c. tt) (λ c κs. omega arith) (λ c. tt)
+    (λ c. omega arith) (λ c. omega arith) (λ c. omega arith) (λ c. tt))
