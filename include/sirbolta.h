@@ -2,7 +2,8 @@
  * Sirbolta: a drive stored as its Lyndon grammar, checked, read back and searched.
  *
  * A text is a drive: 0 to 2,047 samples of one byte. A pattern is 1 to 2,047 samples. A table is what sirbolta_build writes: words of 32 bits,
- * at most 4,608. Positions count from 0. A Lyndon word is not empty, and smaller than each of its proper suffixes but the empty one.
+ * at most 4,608. Positions count from 0. Samples compare as unsigned numbers, strings at the first different sample or as a proper
+ * prefix, which is the smaller; a Lyndon word is not empty, and smaller than each of its proper suffixes but the empty one.
  *
  * A slice is a pointer and a length in entries; a null pointer with length 0 is fine. The caller sees to it that
  *   - each pointer is valid for its length, and a pointer to words is aligned to 4 bytes;

@@ -26,6 +26,6 @@ int main(void) {
     printf("]\n");
 
     sirbolta_reply refused = sirbolta_extract(table, words, 4, 1, work, WORK, drive, SAMPLES);
-    if (refused.number == 8) printf("refused 8: the range reaches past the end of the text\n");
+    if (refused.number == 8) printf("refused 8: the range or position reaches past the end of the text\n");
     return 0;
 }

@@ -95,7 +95,7 @@ pub fn live_cuts(pattern: &[u8], result: &mut [u32]) -> Result<usize, Refusal> {
 }
 
 /// The length of the longest Lyndon word that begins at `position` in the text; `RangePastEnd` where it has no such position. A Lyndon word is not empty,
-/// and smaller than each of its proper suffixes but the empty one.
+/// and smaller than each of its proper suffixes but the empty one; samples compare as unsigned numbers, and a proper prefix is smaller.
 pub fn lyndon_length(table: &[u32], position: usize, work: &mut [u32]) -> Result<usize, Refusal> {
     counted(unsafe { sirbolta_lyndon_length(table.as_ptr(), table.len(), position, work.as_mut_ptr(), work.len()) })
 }
@@ -158,7 +158,7 @@ impl fmt::Display for Refusal {
             Refusal::TableLength => write!(f, "the table has no word, an odd number of words, or more than 4,608"),
             Refusal::BadWord { at } => write!(f, "word {at} of the table is bad"),
             Refusal::NotATable => write!(f, "no text and chair number has this table"),
-            Refusal::RangePastEnd => write!(f, "the range reaches past the end of the text"),
+            Refusal::RangePastEnd => write!(f, "the range or position reaches past the end of the text"),
             Refusal::ResultTooShort { needed } => write!(f, "the result slice is too short, {needed} entries are needed"),
         }
     }

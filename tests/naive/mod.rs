@@ -2,7 +2,7 @@
 //! followed as they are worded, but for two:
 //!
 //! - Above 64 symbols `Common` stands in for the wording of the standard factorization, of live cuts and of the longest Lyndon words, which takes
-//!   the cube of the length or more: for the longest drive of equal samples a second, and there are thousands of calls. Up to 64 symbols the two
+//!   up to the cube of the length: for the longest drive of equal samples a second, and there are thousands of calls. Up to 64 symbols the two
 //!   are compared.
 //! - Whether a table is that of some drive is not tried drive by drive: it can only be the one that its last rule spells.
 

@@ -260,7 +260,7 @@ def live_cuts(pattern: Samples) -> list[int]:
 def lyndon_length(table: Words, position: int) -> int:
     """The length of the longest Lyndon word that begins at a position of the text. Refusals: those of `check`; RangePastEnd where it has no such position.
 
-    A Lyndon word is not empty, and smaller than each of its proper suffixes but the empty one.
+    A Lyndon word is not empty, and smaller than each of its proper suffixes but the empty one; samples compare as unsigned numbers, and a proper prefix is smaller.
 
     >>> lyndon_length(build(b"abab", chair=40), position=2)
     2

@@ -50,7 +50,7 @@ class NotATable(Refusal):
 
 
 class RangePastEnd(Refusal):
-    number, reason = 8, "the range reaches past the end of the text"
+    number, reason = 8, "the range or position reaches past the end of the text"
 
 
 class ResultTooShort(Refusal):

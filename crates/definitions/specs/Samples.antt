@@ -1,5 +1,5 @@
 -- The samples of document 01 that are marked P, its live cuts, its two examples of a cut at a join, its table of `abab` for chair 40, tables that it says are
--- foreign, some of its edges as outcomes of services, and what its program prints: by computation, under one claim.
+-- foreign, some of its edges as outcomes of services, and what its program prints; and the arrays of S-1: by computation, under one claim.
 use Prim.Native.Nat.{ℕ, _+_, _-_}
 use mathlib.Core.Path.{_≡_, refl}
 use mathlib.Core.Bool.{Bool, true, false, cond, _&&_}
@@ -236,6 +236,7 @@ samples =
     ∷ clears (countService sampleOrder ofAbab [] room) false
     ∷ clears (extractService sampleOrder ofAbab 4 1 room []) true
     ∷ clears (lyndonLengthService sampleOrder ofAbab 4 room) true
+    ∷ clears (lyndonArrayService sampleOrder ofAbab room (replicate 3 7)) true
     ∷ clears (buildService sampleOrder abab 40 room (replicate 11 7)) true
     ∷ answers (Done 5) 0 0 5
     ∷ answers (Refused 6 5) 6 5 0

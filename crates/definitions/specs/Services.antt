@@ -1,4 +1,4 @@
--- What each service answers and leaves in the slices lent to it (document 01, "When a request is turned down").
+-- What each service answers and leaves in the slices lent to it (document 01, "When a request is turned down"; document 02, S-1).
 -- A service's checks are an ordered list; the first that is met decides number, place and what becomes of each lent slice.
 use Prim.Native.Nat.{ℕ, _+_, _%_}
 use mathlib.Core.Bool.{Bool, true, false, cond, not, _||_}

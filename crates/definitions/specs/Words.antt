@@ -1,4 +1,4 @@
--- Strings of symbols, their order, and Lyndon words (document 01, "Words on which the grammar stands").
+-- Strings of symbols, their order, and Lyndon words (document 01, "Words on which the grammar stands"); the longest of them at a position (document 02, S-1).
 -- A string is a list of symbols; a symbol is a natural number, and symbols compare as numbers.
 use Prim.Native.Nat.{ℕ, zero, suc}
 use mathlib.Core.Bool.{Bool, true, false, cond, not, _&&_, _||_}

@@ -17,6 +17,12 @@
 //     ENTRIES   6656   the rules met before it               2304
 //     TABLE     11520  the table                             4608
 //
+// While the longest Lyndon words of what is loaded are asked for:
+//
+//     0                ranks of the marked text              2048 words
+//     LONGEST   2048   length of the longest Lyndon word     2048, over LENGTHS
+//     CLOSINGS  4096   joins that close behind a symbol      2048, over LENGTHS and PLACES
+//
 // During a search:
 //
 //     0                ranks of the marked text              2048 words

@@ -16,7 +16,7 @@ use Rattle.lists.specs.Decisions.{met, none, more, checked, refused-met, done-m
 use Rattle.lists.specs.Serving.{refused-by, served}
 use Rattle.lists.specs.Parts.{part, part-length, part-at, part-cons}
 use Rattle.lyndon.specs.Forest.{longests}
-use Rattle.lyndon.specs.Arrays.{array-longests, array-at}
+use Rattle.lyndon.specs.Arrays.{array-longests, array-length, array-at}
 use Rattle.layout.specs.Layout.{LONGEST, WORK}
 use Rattle.ends.specs.Areas.{Ended}
 use Rattle.state.specs.State.{Ready}
@@ -30,6 +30,9 @@ module _ {w : List ℕ} (h : Ready w) (n : ℕ) (e : n ≡ length (h .text)) whe
 
   pub room : WORK ≤ length w
   room = h .loaded .kept .long
+
+  pub size : n ≡ length (lyndonArray ranks)
+  size = e ∙ sym (array-length ranks ∙ length-map (h .text) (rankOf (h .order)))
 
   front : part 0 (n + 1) w ≡ marked (h .order) (h .text)
   front = let q : n + 1 ≡ suc (length (h .text)) = omega arith in ap (λ (k : ℕ). part 0 k w) q ∙ h .loaded .kept .ranks

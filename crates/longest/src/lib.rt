@@ -1,11 +1,12 @@
 // The lengths of the longest Lyndon words of the text that is loaded: at one position, or at all of them, written to the front of the result slice.
 //
-// `ends` makes them from the ranks, where the lengths of the rules stood: so the text's length is taken before. The first of them is that of the mark.
+// `ends` makes them from the ranks and writes them over the lengths of the rules, so the text's length is taken before. The first of them is that of the mark.
+// It costs what `ends` costs, whatever the position: up to about n * n / 8 symbol steps, reached by (a^k b)^2.
 use definitions::Answer;
-use delivery::deliver;
 use ends::ends;
 use layout::LONGEST;
 use results::range_fits;
+use results::result_fits;
 use slices::wide;
 use spelling::text_length;
 ghost use mathlib.Core.Path.{_≡_};
@@ -39,10 +40,15 @@ pub fn array_loaded(rules: usize, work: &mut [u32], result: &mut [u32]) -> Answe
     ensures { λ r. ⌜ ((h : Ready (now (work .entry))) → rules ≡ rulesLoaded h → Serves (writes [] (lyndonArray (map (rankOf (h .order)) (h .text))) 0 (now (result .entry))) (Answers r) (now (result .exit) ∷ [])) ⌝ }
 {
     let n = text_length(rules, work);
+    let a = result_fits(n, result.len());
+    let Answer::Done(_) = a else {
+        return a;
+    };
     place_array(n, work);
     let from = LONGEST + 1;
     let end = from + n;
-    deliver(&work[from..end], result)
+    slices::copy(&work[from..end], result);
+    a
 }
 
 // Places the Lyndon array of the text that is loaded, of n samples, behind the length of the mark's word.

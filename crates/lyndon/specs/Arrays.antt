@@ -10,14 +10,14 @@ use lib.ListN.{length, length-map, take, drop, getD, replicate, length-take, len
 use Rattle.definitions.specs.Words.{below, lexlt, lyndon, lyndonLength, lyndonArray}
 use Rattle.definitions.specs.declared.Order.{Order}
 use Rattle.definitions.specs.Grammar.{leaf, word}
-use Rattle.definitions.specs.Table.{rankOf, textOf}
+use Rattle.definitions.specs.Table.{rankOf, tableOf, textOf}
 use Rattle.definitions.specs.Services.{done, refused, firstMet, outcome, tableChecks, lyndonLengthService, lyndonArrayService}
 use Rattle.lists.specs.Bools.{not-so}
 use Rattle.lists.specs.Numbers.{below-shift, greatest-is}
 use Rattle.lyndon.specs.Lexical.{lexlt-lt, lt-irrefl}
 use Rattle.lyndon.specs.Words.{lyndon-is, is-lyndon}
 use Rattle.lyndon.specs.Forest.{merge, merge-false, forest, firstLength, longest, longests, longest-is, longest-fits, longest-most}
-use Rattle.lyndon.specs.Stored.{Acceptable}
+use Rattle.lyndon.specs.Stored.{Stored, Acceptable, passes, table-text}
 
 -- ---- one position
 
@@ -79,13 +79,21 @@ equal-forest a zero = refl
 equal-forest a (suc n) =
     rw (equal-forest a n) (merge-false (leaf a) (leaf a) (forest (replicate n a)) (not-so (lexlt (word (leaf a)) (word (leaf a))) (λ e. lt-irrefl (word (leaf a)) (lexlt-lt (word (leaf a)) (word (leaf a)) e))))
 
-pub equal-samples : (a n : ℕ) → lyndonArray (replicate n a) ≡ replicate n 1
+equal-samples : (a n : ℕ) → lyndonArray (replicate n a) ≡ replicate n 1
 unfolding longests longest firstLength word
 equal-samples a n = array-longests (replicate n a) ∙ go n
   where
     go : (n : ℕ) → longests (replicate n a) ≡ replicate n 1
     go zero = refl
     go (suc n) = ap₂ {C = List ℕ} (λ x l. x ∷ l) (ap firstLength (equal-forest a n)) (go n)
+
+equal-ranks : (o : Order) (b n : ℕ) → map (rankOf o) (replicate n b) ≡ replicate n (rankOf o b)
+equal-ranks o b zero = refl
+equal-ranks o b (suc n) = ap (λ (l : List ℕ). rankOf o b ∷ l) (equal-ranks o b n)
+
+-- of a drive of equal samples
+pub equal-drive : (o : Order) (b n : ℕ) → lyndonArray (map (rankOf o) (replicate n b)) ≡ replicate n 1
+equal-drive o b n = rw (equal-ranks o b n) (equal-samples (rankOf o b) n)
 
 -- ---- the services, for an accepted table and a work slice that is long enough
 
@@ -110,3 +118,8 @@ module _ (o : Order) (t work : List ℕ) (accepted : Acceptable o t) (long : 163
   whole result h =
       let e : length (lyndonArray ranks) ≡ length (textOf o t) = array-length ranks ∙ length-map (textOf o t) (rankOf o) in
       rw (le-ltb (length work) 16384 long, accepted .0, accepted .1, accepted .2, e, le-ltb (length result) (length (textOf o t)) h)
+
+-- the empty drive refuses every position
+pub empty-refuses : (o : Order) (chair : ℕ) → Stored [] chair → (work : List ℕ) → 16384 ≤ length work → (i : ℕ) → outcome (lyndonLengthService o (tableOf o [] chair) i work) ≡ refused 8 0
+empty-refuses o chair ok work long i =
+    past-end o (tableOf o [] chair) work (passes o (tableOf o [] chair) .1 ([], chair, ok, refl)) long i (rw (table-text o [] chair ok) (omega arith))

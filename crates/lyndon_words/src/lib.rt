@@ -30,7 +30,7 @@ pub fn lyndon_array(table: &[u32], work: &mut [u32], result: &mut [u32]) -> Answ
     let Answer::Done(rules) = a else {
         return a;
     };
-    let b = array_loaded(rules, &mut work[0..WORK], result);
+    let written = array_loaded(rules, &mut work[0..WORK], result);
     clear_front(work);
-    b
+    written
 }

@@ -1,7 +1,7 @@
 -- `length_loaded` is refused by 8, or answers the entry of the array that was placed.
 use native.Mathlib.Omega.{arith}
 use borrow.Author.Needs.{needs}
-use Rattle.longest.proofs.Placing.{few, room, low, length-refused, length-served}
+use Rattle.longest.proofs.Placing.{room, low, length-refused, length-served}
 use Rattle.longest.proofs.length_loaded.Statement.{statement}
 use Rattle.longest.proofs.length_loaded.Tie as tie
 

@@ -1,7 +1,6 @@
 -- `place_array` leaves what `ends` leaves behind the mark's length.
-use native.Mathlib.Omega.{arith}
 use borrow.Author.Needs.{needs}
-use Rattle.longest.proofs.Placing.{few, room, array-stands}
+use Rattle.longest.proofs.Placing.{array-stands}
 use Rattle.longest.proofs.place_array.Statement.{statement}
 use Rattle.longest.proofs.place_array.Tie as tie
 
