@@ -40,7 +40,10 @@ slice-read-wide c =
     let f = k .before .before in
     let t = f .before in
     let s = t .before .before .before in
-    omega (arith, p .place-array .kept .1 .0, room (s .pre .0) (t .text-length .result) (t .text-length .ensures (s .pre .0) (s .pre .1)), low (s .pre .0) (t .text-length .result) (t .text-length .ensures (s .pre .0) (s .pre .1)) (s .args .position) (f .range-fits .result) (f .range-fits .ensures) (k .enum-told .given .1))
+    let h = s .pre .0 in
+    let n = t .text-length .result in
+    let q = t .text-length .ensures h (s .pre .1) in
+    omega (arith, p .place-array .kept .1 .0, room h n q, low h n q (s .args .position) (f .range-fits .result) (f .range-fits .ensures) (k .enum-told .given .1))
 
 returns-2 : tie.Need-returns-2
 returns-2 c h e =
