@@ -3,7 +3,7 @@ use mathlib.Core.Path.{_≡_, _∙_, ap}
 use mathlib.Core.List.{List, map}
 use Prim.Native.Nat.{ℕ, _+_, _-_}
 use native.Mathlib.Omega.{arith}
-use lib.ListN.{length, take, drop}
+use lib.ListN.{take, drop, length-take, length-drop}
 use borrow.Author.Needs.{needs}
 use Rattle.definitions.specs.Words.{placed, lyndonArray}
 use Rattle.definitions.specs.Table.{rankOf}
@@ -56,11 +56,7 @@ copy-requires c κs =
     let n = t .text-length .result in
     let q = t .text-length .ensures h (s .pre .1) in
     let a = lyndonArray (map (rankOf (h .order)) (h .text)) in
-    omega (
-      arith,
-      ap length (copied n (p .place-array .last .1 .0) a (p .place-array .ensures h q)),
-      list-fits a (s .args .result .now) n (size h n q) (f .result-fits .result) (f .result-fits .ensures) (k .enum-told .given .1),
-    )
+    simp (length-take, length-drop) (omega (arith, size h n q, list-fits a (s .args .result .now) n (size h n q) (f .result-fits .result) (f .result-fits .ensures) (k .enum-told .given .1)))
 
 returns-2 : tie.Need-returns-2
 returns-2 c h e =
