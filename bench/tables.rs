@@ -336,10 +336,10 @@ pub fn lyndon_length(table: &[u32], position: usize, work: &mut [u32]) -> Answer
 pub fn lyndon_array(table: &[u32], work: &mut [u32], result: &mut [u32]) -> Answer {
     with_loaded(table, work, |work| {
         let n = text_length(table, work);
-        ends(work, n + 1);
         if result.len() < n {
             return refused(9, n);
         }
+        ends(work, n + 1);
         let mut i = 0;
         while i < n {
             put(result, i, at(work, LONGEST + 1 + i));
