@@ -219,7 +219,10 @@ def count_each(tables: Iterable[Words], pattern: Samples) -> list[int]:
                 raise _refusal(reply.number, reply.place, len(counts))
             counts.append(reply.count)
         if error is not None:
-            raise error
+            try:
+                raise error
+            finally:
+                del error  # else it would keep its traceback, and that this call with its tables
         if number < _AT_ONCE:
             return counts
 

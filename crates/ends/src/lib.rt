@@ -2,7 +2,7 @@
 // the work slice.
 //
 // From right to left, the word at a place is joined with the words behind it while it is smaller than the next; one length a place
-// stands for the stack of words. Comparing costs at most about n * n / 8 symbol steps, reached by (a^k b)^2.
+// stands for the stack of words. Comparing costs about n * n / 8 symbol steps on the worst text known, (a^k b)^2.
 use compare::before;
 use definitions::Order;
 use layout::CLOSINGS;

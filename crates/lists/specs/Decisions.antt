@@ -1,6 +1,6 @@
 -- Which of several checks decides: one of them is the first that is met (`First`), or none is (`Passed`), and `firstMet` then gives what that
 -- check refuses with (`first-decides`), or success (`passed-all`). What the answer of a check (`checked`) or of several (`answered`) tells of them.
-use mathlib.Core.Path.{_≡_, refl, sym, _∙_, ap}
+use mathlib.Core.Path.{_≡_, refl, sym, _∙_}
 use mathlib.Core.Bool.{Bool, true, false, cond}
 use mathlib.Core.Logic.{_⊎_, inl, inr}
 use mathlib.Core.List.{List, [], _∷_, _++_}

@@ -8,7 +8,7 @@ use Prim.Native.Nat.{ℕ}
 use Rattle.definitions.specs.declared.Answer.{Answer}
 use Rattle.definitions.specs.declared.Answer.the-variants.{Refused}
 use Rattle.definitions.specs.Services.{Outcome, refused, outcomeOf, Check, Lent, workSlice, Service, firstMet, outcome, slicesAfter, cleared, Serves, Answers}
-use Rattle.lists.specs.Decisions.{First, met, later, Passed, none, decide, first-decides, passed-all, passed-front, first-before, answered, refused-some}
+use Rattle.lists.specs.Decisions.{First, met, later, Passed, decide, first-decides, passed-all, passed-front, first-before, answered, refused-some}
 
 abbrev pub by : List Check → Outcome → List Lent → Service
 by checks success lent = record { checks = checks; success = success; lent = lent }

@@ -1,7 +1,7 @@
 // The lengths of the longest Lyndon words of the text that is loaded: at one position, or at all of them, written to the front of the result slice.
 //
 // `ends` makes them from the ranks and writes them over the lengths of the rules, so the text's length is taken before. The first of them is that of the mark.
-// It costs what `ends` costs, whatever the position: up to about n * n / 8 symbol steps, reached by (a^k b)^2.
+// It costs what `ends` costs, whatever the position: on the worst text known, (a^k b)^2, about n * n / 8 symbol steps.
 use definitions::Answer;
 use ends::ends;
 use layout::LONGEST;

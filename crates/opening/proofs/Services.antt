@@ -10,7 +10,7 @@ use Rattle.definitions.specs.declared.Answer.{Answer}
 use Rattle.definitions.specs.declared.Answer.the-variants.{Done, Refused}
 use Rattle.definitions.specs.Words.{placed}
 use Rattle.definitions.specs.Table.{textOf, chairOf}
-use Rattle.definitions.specs.Services.{Outcome, refused, Check, Lent, workSlice, cleared, tableChecks, Serves}
+use Rattle.definitions.specs.Services.{Outcome, Check, Lent, workSlice, cleared, tableChecks, Serves}
 use Rattle.lists.specs.Decisions.{Passed, first-before}
 use Rattle.lists.specs.Serving.{by, Refuses, refused-by}
 use Rattle.layout.specs.Layout.{WORK}

@@ -1,5 +1,5 @@
 -- `is_not_smaller` compares the first ranks, and has the words compared where these are the same, the other way round.
-use mathlib.Core.Path.{_≡_, _∙_, ap}
+use mathlib.Core.Path.{_∙_, ap}
 use mathlib.Core.Bool.{not}
 use native.Mathlib.Omega.{arith}
 use lib.ListN.{getD, length-take}

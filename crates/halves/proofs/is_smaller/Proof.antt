@@ -1,5 +1,4 @@
 -- `is_smaller` compares the first ranks, and has the words compared where these are the same.
-use mathlib.Core.Path.{_≡_}
 use native.Mathlib.Omega.{arith}
 use lib.ListN.{length-take}
 use borrow.Author.Needs.{needs}

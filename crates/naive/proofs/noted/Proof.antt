@@ -1,5 +1,4 @@
 -- `noted` stores where the place is one.
-use mathlib.Core.Path.{_≡_, sym, _∙_}
 use native.Mathlib.Omega.{arith}
 use borrow.Author.Needs.{needs}
 use Rattle.naive.proofs.noted.Statement.{statement}
