@@ -1,4 +1,5 @@
-// The live cuts of a pattern: how many there are, their list, and a flag for each cut. They are the starts of the runs that reach the pattern's end.
+// The live cuts of a pattern: how many there are, their list, and a flag for each cut. They are the starts of whole copies in the runs
+// that reach the pattern's end.
 use definitions::Order;
 use runs::at_end;
 use runs::first;

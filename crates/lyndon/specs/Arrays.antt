@@ -2,22 +2,25 @@
 -- `length-most`, `length-inside`). It is the first word of the forest from there on, so the array is what the pass from right to left leaves (`array-longests`).
 use mathlib.Core.Path.{_≡_, refl, sym, _∙_, ap, ap₂}
 use mathlib.Core.Bool.{true, false}
-use mathlib.Core.List.{List, [], _∷_, map, map-map}
+use mathlib.Core.List.{List, [], _∷_, _++_, map, map-map}
 use Prim.Native.Nat.{ℕ, zero, suc, _+_, _≤_, _<_}
 use native.Mathlib.Omega.{arith}
 use borrow.Author.Tests.{lt-ltb, le-ltb}
 use lib.ListN.{length, length-map, take, drop, getD, replicate, length-take, length-drop, take-append-drop}
-use Rattle.definitions.specs.Words.{below, lexlt, lyndon, lyndonLength, lyndonArray}
+use lib.Seq.{getD-take, take-append-seam}
+use Rattle.definitions.specs.Words.{below, placed, lexlt, lyndon, lyndonLength, lyndonArray}
 use Rattle.definitions.specs.declared.Order.{Order}
+use Rattle.definitions.specs.declared.Answer.{Answer}
 use Rattle.definitions.specs.Grammar.{leaf, word}
 use Rattle.definitions.specs.Table.{rankOf, tableOf, textOf}
-use Rattle.definitions.specs.Services.{done, refused, firstMet, outcome, tableChecks, lyndonLengthService, lyndonArrayService}
+use Rattle.definitions.specs.Services.{done, refused, outcomeOf, firstMet, cleared, outcome, slicesAfter, Serves, Answers, tableChecks, lyndonLengthService, lyndonArrayService}
 use Rattle.lists.specs.Bools.{not-so}
 use Rattle.lists.specs.Numbers.{below-shift, greatest-is}
 use Rattle.lyndon.specs.Lexical.{lexlt-lt, lt-irrefl}
 use Rattle.lyndon.specs.Words.{lyndon-is, is-lyndon}
 use Rattle.lyndon.specs.Forest.{merge, merge-false, forest, firstLength, longest, longests, longest-is, longest-fits, longest-most}
 use Rattle.lyndon.specs.Stored.{Stored, Acceptable, passes, table-text}
+use Rattle.lyndon.specs.Finds.{same-number}
 
 -- ---- one position
 
@@ -112,12 +115,30 @@ module _ (o : Order) (t work : List ℕ) (accepted : Acceptable o t) (long : 163
   unfolding outcome lyndonLengthService tableChecks firstMet
   past-end i h = rw (le-ltb (length work) 16384 long, accepted .0, accepted .1, accepted .2, lt-ltb (length (textOf o t)) (i + 1) (omega arith))
 
-  -- the other call answers that there is an entry for each sample
-  pub whole : (result : List ℕ) → length (textOf o t) ≤ length result → outcome (lyndonArrayService o t work result) ≡ done (length (textOf o t)) 0
-  unfolding outcome lyndonArrayService tableChecks firstMet
-  whole result h =
-      let e : length (lyndonArray ranks) ≡ length (textOf o t) = array-length ranks ∙ length-map (textOf o t) (rankOf o) in
-      rw (le-ltb (length work) 16384 long, accepted .0, accepted .1, accepted .2, e, le-ltb (length result) (length (textOf o t)) h)
+  -- the other call, with room in the result slice, answers that there is an entry for each sample
+  module _ (result : List ℕ) (room : length (textOf o t) ≤ length result) where
+    size : length (lyndonArray ranks) ≡ length (textOf o t)
+    size = array-length ranks ∙ length-map (textOf o t) (rankOf o)
+
+    pub whole : outcome (lyndonArrayService o t work result) ≡ done (length (textOf o t)) 0
+    unfolding outcome lyndonArrayService tableChecks firstMet
+    whole = rw (le-ltb (length work) 16384 long, accepted .0, accepted .1, accepted .2, size, le-ltb (length result) (length (textOf o t)) room)
+
+    written : slicesAfter (lyndonArrayService o t work result) ≡ cleared work ∷ (lyndonArray ranks ++ drop (length (lyndonArray ranks)) result) ∷ []
+    unfolding slicesAfter lyndonArrayService tableChecks firstMet placed
+    written = rw (le-ltb (length work) 16384 long, accepted .0, accepted .1, accepted .2, size, le-ltb (length result) (length (textOf o t)) room)
+
+    -- of every call that serves and answers k: so many entries are the array, and each is what the single call answers
+    pub array-returned : (r : Answer) {work′ result′ : List ℕ} (k : ℕ) → Serves (lyndonArrayService o t work result) (Answers r) (work′ ∷ result′ ∷ []) → outcomeOf r ≡ done k 0
+        → (k ≡ length (textOf o t)) × (take k result′ ≡ lyndonArray ranks) × ((i : ℕ) → i < k → outcome (lyndonLengthService o t i work) ≡ done (getD result′ i 0) 0)
+    array-returned r {work′} {result′} k v e =
+        let q : length (textOf o t) ≡ k = same-number (length (textOf o t)) k (sym (v .answer ∙ whole) ∙ e) in
+        let held : result′ ≡ lyndonArray ranks ++ drop (length (lyndonArray ranks)) result = ap (λ (l : List (List ℕ)). getD l 1 []) (v .slices ∙ written) in
+        let g : take k result′ ≡ lyndonArray ranks = ap₂ {C = List ℕ} take (sym (size ∙ q)) held ∙ take-append-seam (lyndonArray ranks) (drop (length (lyndonArray ranks)) result) in (
+          sym q,
+          g,
+          λ i h. single i (omega arith) ∙ ap (λ (m : ℕ). done m 0) (ap (λ (l : List ℕ). getD l i 0) (sym g) ∙ getD-take k result′ i 0 h),
+        )
 
 -- the empty drive refuses every position
 pub empty-refuses : (o : Order) (chair : ℕ) → Stored [] chair → (work : List ℕ) → 16384 ≤ length work → (i : ℕ) → outcome (lyndonLengthService o (tableOf o [] chair) i work) ≡ refused 8 0

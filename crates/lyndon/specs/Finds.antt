@@ -42,7 +42,8 @@ listed p s =
       empty = empty-nowhere p s;
     }
 
-same-number : (a b : ℕ) → done a 0 ≡ done b 0 → a ≡ b
+-- success with the same number
+pub same-number : (a b : ℕ) → done a 0 ≡ done b 0 → a ≡ b
 same-number a b e = cc
 
 module _ (o : Order) (t p work : List ℕ) (accepted : Acceptable o t) (filled : 0 < length p) (short : length p ≤ 2047) (long : 16384 ≤ length work) where

@@ -11,7 +11,6 @@ pub mod Ranks
 pub mod Encoding
 pub mod Tables
 pub mod Stored
-pub mod Arrays
 pub mod Occurrences
 pub mod Cuts
 pub mod Joins
@@ -19,6 +18,7 @@ pub mod Pairs
 pub mod Shapes
 pub mod Back
 pub mod Finds
+pub mod Arrays
 pub mod Meeting
 pub mod Ruled
 pub mod Standard
