@@ -227,17 +227,6 @@ def count_each(tables: Iterable[Words], pattern: Samples) -> list[int]:
             return counts
 
 
-def _gathered(tables: Iterator[Words]) -> tuple[list[bytes], Exception | None]:
-    """The words of the next tables, and what was raised behind them."""
-    words: list[bytes] = []
-    try:
-        for table in islice(tables, _AT_ONCE):
-            words.append(table._bytes if isinstance(table, Table) else Table(table)._bytes)
-    except Exception as error:
-        return words, error
-    return words, None
-
-
 def locate(table: Words, pattern: Samples) -> list[int]:
     """The positions at which the pattern begins in the text, rising, each once. Refusals: those of `count`.
 
@@ -299,6 +288,17 @@ def _samples(value: Samples) -> bytes:
         if view.itemsize != 1:
             raise TypeError("samples are single bytes")
         return view.tobytes()
+
+
+def _gathered(tables: Iterator[Words]) -> tuple[list[bytes], Exception | None]:
+    """The words of the next tables, and what was raised behind them."""
+    words: list[bytes] = []
+    try:
+        for table in islice(tables, _AT_ONCE):
+            words.append(table._bytes if isinstance(table, Table) else Table(table)._bytes)
+    except Exception as error:
+        return words, error
+    return words, None
 
 
 def _reply_to(table: Words, service: Any, *arguments: Any) -> Any:
