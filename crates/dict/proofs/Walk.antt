@@ -8,7 +8,7 @@ use lib.ListN.{getD}
 use lib.Dec.{eqb}
 use borrow.Author.Tests.{eqb-true, eq-eqb, ne-eqb}
 use Rattle.lists.specs.Bools.{not-so, and-left, and-right, and-intro}
-use Rattle.lists.specs.Newest.{latest, newest, hasWords, latest-true, latest-false, latest-le, latest-holds, latest-skip, newest-found, newest-nothing}
+use Rattle.lists.specs.Newest.{latest, hasWords, latest-true, latest-false, latest-le, latest-holds, latest-skip}
 use Rattle.dict.specs.Dictionary.{bucketOf, inBucket, Dict}
 
 -- ---- rules and their buckets
@@ -88,14 +88,13 @@ walk-next t links n x y r s d w h f e = (
         ∙ ap (λ (b : ℕ). latest (inBucket t b) q) (eqb-true (bucketOf (getD t (2 * q) 0) (getD t (2 * q + 1) 0)) (bucketOf x y) (w .bucket q back))
 
 -- rule r - 1 has the words
-pub walk-found : (t : List ℕ) (n x y r : ℕ) → Walk t n x y r → 0 < r → hasWords t x y (r - 1) ≡ true → r - 1 ≡ newest (hasWords t x y) n
-walk-found t n x y r w h f =
-    sym (newest-found (hasWords t x y) n (r - 1) (w .rest ∙ ap (latest (hasWords t x y)) back ∙ latest-true (hasWords t x y) (r - 1) f))
+pub walk-found : (t : List ℕ) (n x y r : ℕ) → Walk t n x y r → 0 < r → hasWords t x y (r - 1) ≡ true → r ≡ latest (hasWords t x y) n
+walk-found t n x y r w h f = sym (w .rest ∙ ap (latest (hasWords t x y)) back ∙ latest-true (hasWords t x y) (r - 1) f ∙ sym back)
   where
     back : r ≡ suc (r - 1)
     back = omega arith
 
 -- nothing is left
-pub walk-ended : (t : List ℕ) (n x y r : ℕ) → Walk t n x y r → r ≡ 0 → n ≡ newest (hasWords t x y) n
+pub walk-ended : (t : List ℕ) (n x y r : ℕ) → Walk t n x y r → r ≡ 0 → 0 ≡ latest (hasWords t x y) n
 unfolding latest
-walk-ended t n x y r w z = sym (newest-nothing (hasWords t x y) n (w .rest ∙ ap (latest (hasWords t x y)) z))
+walk-ended t n x y r w z = sym (w .rest ∙ ap (latest (hasWords t x y)) z)

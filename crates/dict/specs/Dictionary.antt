@@ -10,7 +10,7 @@ use Rattle.lists.specs.Newest.{latest}
 
 -- the bucket of the words x and y
 unfoldable pub bucketOf : ℕ → ℕ → ℕ
-bucketOf x y = (x * 1640531527 + y * 1013904243) / 2097152 % 1024
+bucketOf x y = (x * 1640531527 + y * 374761392) / 2097152 % 1024
 
 -- rule r is in the bucket b
 unfoldable pub inBucket : List ℕ → ℕ → ℕ → Bool

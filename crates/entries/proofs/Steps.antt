@@ -9,8 +9,8 @@ use native.Mathlib.Numerals.{add-one}
 use lib.ListN.{length}
 use lib.Dec.{eqb}
 use Rattle.definitions.specs.declared.Order.{Order}
-use Rattle.definitions.specs.declared.Order.the-variants.{Unsigned}
 use Rattle.definitions.specs.Table.{ruleString, spelled, ruleCount, isTable}
+use Rattle.definitions.specs.Services.{sampleOrder}
 use Rattle.lists.specs.Bools.{contra, not-so}
 use Rattle.lyndon.specs.Meeting.{after, after-most, meets}
 use Rattle.lyndon.specs.Ruled.{halves, halves-fall, SymbolOf, PairOf}
@@ -67,8 +67,8 @@ module _ {t w : List ℕ} {r : ℕ} (k : Entered t (r + 1) w) (h : r < ruleCount
     pub pair-room : (u < r) × (v < r) × (r < 2304) × (placeIn w r + lengthIn w u ≤ 2048)
     pair-room =
         let few = rules-few (k .sized .lent) in
-        let at = half-places Unsigned (spelled Unsigned t) (placeIn w r) (top .place Unsigned) p .0 in
-        (p .left, p .right, omega arith, omega (arith, at .inside, p .left, k .sized .sizes Unsigned u (omega (arith, p .left)), spelled-short (k .sized) Unsigned))
+        let at = half-places sampleOrder (spelled sampleOrder t) (placeIn w r) (top .place sampleOrder) p .0 in
+        (p .left, p .right, omega arith, omega (arith, at .inside, p .left, k .sized .sizes sampleOrder u (omega (arith, p .left)), spelled-short (k .sized) sampleOrder))
 
     pub after-room : (after (entryIn w r) u ≤ r) × (after (after (entryIn w r) u) v ≤ r)
     after-room =

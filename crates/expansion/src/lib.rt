@@ -9,8 +9,10 @@ use layout::STACK;
 use ranks::rank_of_number;
 use slices::put;
 use slices::wide;
+ghost use mathlib.Core.Path.{_≡_};
 ghost use Prim.Native.Nat.{_+_, _≤_, _<_};
 ghost use lib.ListN.{length};
+ghost use Rattle.definitions.specs.Table.{rankOfNumber};
 ghost use Rattle.lyndon.specs.Shapes.{Shaped};
 ghost use Rattle.layout.specs.Layout.{WORK};
 ghost use Rattle.expansion.specs.Expansion.{Expanded, Expandable, Stepped};
@@ -68,7 +70,7 @@ fn expand_rule(order: Order, table: &[u32], work: &mut [u32], p: Place) -> Turn
     let rule = rule_of(table, p.rule);
     match rule {
         Rule::Symbol(number, _) => {
-            put(work, n, rank_of_number(order, number));
+            put(work, n, symbol_rank(order, number));
             if d == 0 {
                 return Turn::Whole(n + 1);
             }
@@ -88,4 +90,15 @@ fn expand_rule(order: Order, table: &[u32], work: &mut [u32], p: Place) -> Turn
             });
         }
     }
+}
+
+// The rank of a symbol rule's number: the mark's, or a sample's.
+fn symbol_rank(order: Order, number: u32) -> u32
+    requires { ⌜ number < 257 ⌝ }
+    ensures { λ r. ⌜ r ≡ rankOfNumber order number ⌝ }
+{
+    if number == 0 {
+        return 0;
+    }
+    rank_of_number(order, number)
 }

@@ -1,20 +1,20 @@
 -- One rule more is written at its place: a symbol by a store (`symbol-written`), a pair by two copies, once its halves can be compared there (`pair-written`,
--- `pair-judged`); where they are not in order the table is no drive's.
+-- `pair-judged`); where they are not in order the table is no drive's. The first rule is the mark (`mark-written`), a later symbol is a sample (`sample-number`).
 use mathlib.Core.Path.{_≡_, refl, sym, _∙_, ap, subst}
 use mathlib.Core.Bool.{Bool, true, false}
 use mathlib.Core.List.{List}
-use Prim.Native.Nat.{ℕ, _+_, _≤_, _<_}
+use Prim.Native.Nat.{ℕ, _+_, _*_, _≤_, _<_}
 use native.Mathlib.Omega.{arith}
 use native.Mathlib.Numerals.{add-one}
-use lib.ListN.{length, set}
+use lib.ListN.{length, getD, set}
 use Rattle.definitions.specs.declared.Order.{Order}
 use Rattle.definitions.specs.Words.{every}
-use Rattle.definitions.specs.Table.{rankOfNumber, ruleString, spelled, ruleCount, isTable}
+use Rattle.definitions.specs.Table.{rankOfNumber, wordOf, ruleString, spelled, ruleCount, isTable}
 use Rattle.lists.specs.Bools.{contra, not-so, and-intro}
-use Rattle.lists.specs.Numbers.{split-lt, every-at}
+use Rattle.lists.specs.Numbers.{split-le, split-lt, every-at}
 use Rattle.lists.specs.Parts.{Filled, filled-set}
 use Rattle.lyndon.specs.Shapes.{string-filled}
-use Rattle.lyndon.specs.Ruled.{SymbolOf, PairOf}
+use Rattle.lyndon.specs.Ruled.{SymbolOf, PairOf, Ruled, symbol, pair, ruled}
 use Rattle.lyndon.specs.Standard.{ordered, ordered-symbol}
 use Rattle.lyndon.specs.Filling.{Stands, half-places, symbol-word, symbol-filled, pair-filled, filled-stands}
 use Rattle.lyndon.specs.Judging.{judged}
@@ -23,11 +23,11 @@ use Rattle.lengths.proofs.Sizes.{rules-few}
 use Rattle.entries.specs.Entries.{Placed}
 use Rattle.entries.proofs.Steps.{spelled-short}
 use Rattle.halves.specs.Halves.{Written}
-use Rattle.filling.specs.Filling.{copied, Copyable, Filling}
+use Rattle.filling.specs.Filling.{copied, Copyable, OneMark, Filling}
 use Rattle.filling.proofs.Areas.{Behind, behind-set, behind-both, placed-same, Copied, rule-copied}
 
 -- no rule is written yet
-pub fill-start : (o : Order) (t w : List ℕ) → Placed t w → Filling o t 0 w
+fill-start : (o : Order) (t w : List ℕ) → Placed t w → Filling o t 0 w
 unfolding every
 fill-start o t w p = record { placed = p; filled = λ q h. absurd (omega arith); standard = refl }
 
@@ -44,6 +44,11 @@ copyable o t w q x p h at =
       inside = omega (arith, p .places q h o .inside);
       room = omega (arith, at .inside);
     }
+
+-- the number of a symbol that is not the mark
+pub sample-number : {t : List ℕ} {r a b : ℕ} → SymbolOf t r a b → (getD t (2 * r) 0 ≡ 0 → ⊥) → (0 < a) × (a < 257)
+unfolding wordOf
+sample-number {t} {r} {a} p n = (split-le a 0 (λ l. absurd (n (omega (arith, p .first)))) (λ l. l), p .number)
 
 -- rule r, which is read to stand at `start`
 module _ {o : Order} {t w : List ℕ} {r : ℕ} (k : Filling o t r w) (h : r < ruleCount t) (start : ℕ) (es : start ≡ placeIn w r) where
@@ -155,3 +160,22 @@ module _ {o : Order} {t w : List ℕ} {r : ℕ} (k : Filling o t r w) (h : r < r
           λ q. more y both (λ i m d. second .keeps i m (first .keeps i m d)) whole (sym (g pair-written) ∙ q),
           λ q. unordered (sym (g pair-written) ∙ q),
         )
+
+-- ---- the first rule, which is the mark
+
+module _ (o : Order) (t w : List ℕ) (p : Placed t w) where
+  first-low : 0 < ruleCount t
+  first-low = omega (arith, p .sized .lent .shaped .even, p .sized .lent .shaped .filled)
+
+  pub mark-room : (start : ℕ) → start ≡ placeIn w 0 → start < length w
+  mark-room start e = omega (arith, place-room (fill-start o t w p) first-low start e .1, p .sized .lent .long)
+
+  pub mark-written : OneMark t → (start : ℕ) → start ≡ placeIn w 0 → (v : List ℕ) → v ≡ set w start 0 → Filling o t 1 v
+  unfolding wordOf rankOfNumber
+  mark-written m start e v f = go (ruled t (p .sized .lent .shaped) 0 first-low)
+    where
+      go : Ruled t 0 → Filling o t 1 v
+      go (symbol a b q) =
+          let none : 0 ≡ a = omega (arith, m .mark, q .first) in
+          symbol-written (fill-start o t w p) first-low start e a b q v 0 (ap (rankOfNumber o) none) f
+      go (pair x y q) = absurd (omega (arith, q .left))

@@ -3,7 +3,7 @@
 use mathlib.Core.Path.{_≡_, refl, sym, _∙_, ap, ap₂, subst}
 use mathlib.Core.Bool.{true, _&&_}
 use mathlib.Core.List.{List, [], _∷_, _++_, map, List·Memᴰ as In, List·Memᴰ·not-nil as in-nil, List·Memᴰ·eq-of-singleton as in-one}
-use Prim.Native.Nat.{ℕ, zero, suc, _+_, _-_, _≤_, _<_, min}
+use Prim.Native.Nat.{ℕ, zero, suc, _+_, _-_, _/_, _%_, _≤_, _<_, min}
 use native.Mathlib.Omega.{arith}
 use lib.ListN.{length, take, drop, length-append, length-map}
 use lib.Dec.{ltb}
@@ -18,6 +18,7 @@ use Rattle.lists.specs.Members.{in-none}
 use Rattle.lists.specs.Parts.{part, part-length, part-append, part-part}
 use Rattle.lyndon.specs.Joins.{triedCuts, tried-suffice, straddling-cut, straddling-most, cut-at}
 use Rattle.lyndon.specs.Occurrences.{begins-at, at-begins}
+use Rattle.layout.specs.Layout.{PACK}
 use Rattle.joins.specs.Joining.{cutPlace, JoinCut}
 
 -- ---- lists with at most one member
@@ -120,3 +121,15 @@ module _ (o : Order) (p w : List ℕ) where
             let (a, s) = tried-suffice P .cut d n in
             h d (omega (arith, whole-size, left-size, ranks-size)) (omega (arith, left-size, ranks-size)) n
             (sym (taken i (join - d) (omega (arith, whole-size, ranks-size)) (omega (arith, left-size))) ∙ q)
+
+-- ---- packed
+
+module _ {p u v : List ℕ} where
+  pub packed-hit : (n c : ℕ) → 0 < c → c < n → n ≤ 2047 → JoinCut p u v c → JoinCut p u v ((PACK + c) % PACK) × ((PACK + c) / PACK ≡ min 1 ((PACK + c) % PACK))
+  packed-hit n c z h k j =
+      let e : (PACK + c) % PACK ≡ c = omega arith in
+      let d : (PACK + c) / PACK ≡ 1 = omega arith in
+      (subst (JoinCut p u v) (sym e) j, d ∙ omega (arith, e))
+
+  pub packed-miss : JoinCut p u v 0 → JoinCut p u v (0 % PACK) × (0 / PACK ≡ min 1 (0 % PACK))
+  packed-miss j = (j, refl)

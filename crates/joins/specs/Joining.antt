@@ -13,6 +13,10 @@ use Rattle.layout.specs.Layout.{FLAGS}
 abbrev pub Flagged : List ℕ → List ℕ → Type 0
 Flagged p w = (c : ℕ) → In c (triedCuts p) → getD w (FLAGS + c) 0 ≡ 0 → ⊥
 
+-- of the first n words of w those behind the first are ranks of samples
+abbrev pub Samples : ℕ → List ℕ → Type 0
+Samples n w = (i : ℕ) → 0 < i → i < n → (0 < getD w i 0) × (getD w i 0 < 257)
+
 -- the place of an occurrence cut at c at a join behind n symbols; none where c is 0
 unfoldable pub cutPlace : ℕ → ℕ → List ℕ
 cutPlace n zero = []

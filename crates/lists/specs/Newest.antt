@@ -93,6 +93,14 @@ pub newest-nothing : (f : ℕ → Bool) (n : ℕ) → latest f n ≡ 0 → newes
 unfolding newest
 newest-nothing f n e = cond-true (eqb (latest f n) 0) n (latest f n - 1) (eq-eqb (latest f n) 0 e)
 
+-- it is the bound exactly where there is none
+pub newest-bound : (f : ℕ → Bool) (n : ℕ) → eqb (newest f n) n ≡ eqb (latest f n) 0
+newest-bound f n = go (latest f n) refl
+  where
+    go : (k : ℕ) → latest f n ≡ k → eqb (newest f n) n ≡ eqb (latest f n) 0
+    go zero e = eq-eqb (newest f n) n (newest-nothing f n e) ∙ sym (eq-eqb (latest f n) 0 e)
+    go (suc k) e = ne-eqb (newest f n) n (λ q. omega (arith, newest-found f n k e, latest-le f n)) ∙ sym (ne-eqb (latest f n) 0 (λ q. omega arith))
+
 pub newest-ext : (f g : ℕ → Bool) (n : ℕ) → ((k : ℕ) → k < n → f k ≡ g k) → newest f n ≡ newest g n
 unfolding newest
 newest-ext f g n h = ap (λ (k : ℕ). cond (eqb k 0) n (k - 1)) (latest-ext f g n h)
@@ -111,10 +119,3 @@ newest-no f n e k h = not-so (f k) (λ q. go (latest f n) refl (latest-since f n
     go : (m : ℕ) → latest f n ≡ m → k < latest f n → ⊥
     go zero g l = omega arith
     go (suc m) g l = omega (arith, newest-found f n m g, latest-le f n)
-
-pub newest-le : (f : ℕ → Bool) (n : ℕ) → newest f n ≤ n
-newest-le f n = go (latest f n) refl
-  where
-    go : (k : ℕ) → latest f n ≡ k → newest f n ≤ n
-    go zero e = omega (arith, newest-nothing f n e)
-    go (suc k) e = omega (arith, newest-found f n k e, latest-le f n)

@@ -55,8 +55,11 @@ module _ (w l : List ℕ) (long : WORK ≤ length w) (e : l ≡ replicate (lengt
   pub cleared-numbers : (n : ℕ) → Numberable n w → Numberable n (take LINKS w ++ (l ++ drop 1024 (drop LINKS w)))
   cleared-numbers n k =
       record {
+        filled = k .filled;
         short = k .short;
         long = omega (arith, lent-length w l LINKS 1024 (omega arith) count);
+        mark = below-at w (replaced w l) 0 (omega arith) cleared-stays ∙ k .mark;
+        samples = λ i z h. rw (below-at w (replaced w l) i (omega (arith, k .short)) cleared-stays) (k .samples i z h);
         ranks = λ i h. rw (below-at w (replaced w l) i (omega (arith, k .short)) cleared-stays) (k .ranks i h);
         enough = subst (Enough 0) (sym (part-agree LINKS CLOSINGS n w (replaced w l) cleared-below (omega (arith, k .short)))) (k .enough);
         room = rw (cleared-numbered n (k .short)) (k .room);

@@ -16,7 +16,7 @@ use Rattle.lyndon.specs.Closings.{State, start, push, joins, run, Enough, joins
 use Rattle.layout.specs.Layout.{CLOSINGS, STACK, LINKS, TABLE, BESIDE_SYMBOL}
 use Rattle.dict.specs.Links.{dict-none}
 use Rattle.stack.specs.Areas.{Rules, stackIn, Holds, Pushable, Joinable, Below}
-use Rattle.numbering.specs.Numbering.{stepped, Steppable, numbered, Numberable}
+use Rattle.numbering.specs.Numbering.{stepped, Steppable, numbered, Numberable, Stage, Begun}
 use Rattle.stack.proofs.Stacks.{joins-room}
 
 -- below the stack the slices agree
@@ -75,7 +75,7 @@ module _ (o : Order) (w : List ℕ) (n d i : ℕ) (p : Steppable o w n d i) (x :
   pub step-push : Pushable w n d x BESIDE_SYMBOL
   step-push = subst (λ (y : ℕ). Pushable w n d y BESIDE_SYMBOL) (sym e) (step-pushes o w n d i p .0)
 
-  step-pushed : (v : List ℕ) (m f : ℕ)
+  pub step-pushed : (v : List ℕ) (m f : ℕ)
       → ((q : Pushable w n d x BESIDE_SYMBOL) → Holds (q .o) (push (q .s .rules) (q .rule) (q .s .stack)) v m f)
       → Holds o (push (p .s .rules) (symbol (getD w i 0)) (p .s .stack)) v m f
   step-pushed v m f h =
@@ -99,15 +99,7 @@ module _ (o : Order) (w : List ℕ) (n d i : ℕ) (p : Steppable o w n d i) (x :
 
 -- ---- the whole pass
 
--- the pass is behind i symbols: v holds its state s, and the rest of the run is that of the whole
-pub record Stage (o : Order) (n : ℕ) (w v : List ℕ) (m d i : ℕ) : Type 0 where
-  pub s : State
-  pub holds : Holds o s v m d
-  pub rest : run s (drop i (part 0 n w)) (drop i (part CLOSINGS n w)) ≡ run start (part 0 n w) (part CLOSINGS n w)
-  pub enough : Enough d (drop i (part CLOSINGS n w))
-  pub low : d ≤ i
-
-pub stage-start : (o : Order) (n : ℕ) (w : List ℕ) → Numberable n w → ((b : ℕ) → b < 1024 → getD w (LINKS + b) 0 ≡ 0) → Stage o n w w 0 0 0
+unfoldable pub stage-start : (o : Order) (n : ℕ) (w : List ℕ) → Numberable n w → ((b : ℕ) → b < 1024 → getD w (LINKS + b) 0 ≡ 0) → Stage o n w w 0 0 0
 unfolding stackIn words
 stage-start o n w k z =
     record {
@@ -186,6 +178,35 @@ module _ (o : Order) (n : ℕ) (w v : List ℕ) (m d i : ℕ) (k : Numberable n 
         enough = rw add-one (subst (λ (x : ℕ). Enough x (drop (suc i) (part CLOSINGS n w))) depth (closing .1));
         low = omega (arith, g .low, closing .0);
       }
+
+-- ---- the mark
+
+module _ (o : Order) (n : ℕ) (w : List ℕ) (k : Numberable n w) (z : (b : ℕ) → b < 1024 → getD w (LINKS + b) 0 ≡ 0) where
+  pub at-mark : Steppable o w 0 0 0
+  at-mark = stage-steps o n w w 0 0 0 k refl (stage-start o n w k z) (k .filled)
+
+  pub mark-number : 0 ≡ numberOfRank o (getD w 0 0)
+  unfolding numberOfRank
+  mark-number = ap (numberOfRank o) (sym (k .mark))
+
+  -- its rule can be pushed on nothing
+  pub mark-push : Pushable w 0 0 0 BESIDE_SYMBOL
+  mark-push = step-push o w 0 0 0 at-mark 0 mark-number
+
+  -- then the pass is behind it, since no join closes there
+  unfoldable pub mark-pushed : (v : List ℕ) (m d : ℕ) → ((q : Pushable w 0 0 0 BESIDE_SYMBOL) → Holds (q .o) (push (q .s .rules) (q .rule) (q .s .stack)) v m d) → Below w v → Begun o n v m d
+  unfolding at-mark stage-start stage-steps stepped joins
+  mark-pushed v m d h b =
+      record {
+        origin = w;
+        numberable = k;
+        below = b;
+        stage = stage-next o n w w 0 0 0 k refl (stage-start o n w k z) (k .filled) v m d
+            (subst (λ (c : ℕ). Holds o (joins c (push [] (symbol (getD w 0 0)) [])) v m d) (sym none) (step-pushed o w 0 0 0 at-mark 0 mark-number v m d h));
+      }
+    where
+      none : getD w (CLOSINGS + 0) 0 ≡ 0
+      none = omega (arith, closing o n w w 0 0 0 k refl (stage-start o n w k z) (k .filled) .0)
 
 pub stage-end : (o : Order) (n : ℕ) (w v : List ℕ) (m d i : ℕ) → Numberable n w → Stage o n w v m d i → n ≤ i
     → Rules o (numbered n w) v × (m ≡ length (numbered n w))

@@ -1,5 +1,5 @@
-// The rules of a text's Lyndon grammar, numbered in the work slice: symbol after symbol its rule is pushed, and the two rules on
-// top are joined as often as joins close behind it.
+// The rules of a text's Lyndon grammar, numbered in the work slice: the mark's rule is pushed, then sample after sample its rule, and the two rules
+// on top are joined as often as joins close behind it.
 use definitions::Order;
 use layout::BESIDE_SYMBOL;
 use layout::CLOSINGS;
@@ -14,7 +14,7 @@ ghost use Prim.Native.Nat.{ℕ, _+_, _<_};
 ghost use lib.ListN.{length, getD};
 ghost use Rattle.layout.specs.Layout.{LINKS};
 ghost use Rattle.stack.specs.Areas.{Rules, Holds, Below};
-ghost use Rattle.numbering.specs.Numbering.{Steppable, Numberable, stepped, numbered};
+ghost use Rattle.numbering.specs.Numbering.{Steppable, Numberable, Begun, stepped, numbered};
 
 // The rules of the text, once the ends of its Lyndon words are known: in the table area, with no chair number.
 pub fn rules(order: Order, n: usize, work: &mut [u32]) -> usize
@@ -25,23 +25,33 @@ pub fn rules(order: Order, n: usize, work: &mut [u32]) -> usize
     number(order, n, work)
 }
 
-// The same, once the buckets are empty.
+// The same, once the buckets are empty: no join closes behind the mark.
 fn number(order: Order, n: usize, work: &mut [u32]) -> usize
     requires { ⌜ Numberable n (now work) × ((b : ℕ) → b < 1024 → getD (now work) (LINKS + b) 0 ≡ 0) ⌝ }
     ensures { λ r. ⌜ Rules order (numbered n (now (work .entry))) (now (work .exit)) × (r ≡ length (numbered n (now (work .entry)))) × Below (now (work .entry)) (now (work .exit)) ⌝ }
 {
-    let mut c = Counts { rules: 0, depth: 0 };
-    let mut i = 0;
-    while i < n {
-        c = step(work, order, c, i);
-        i += 1;
-    }
-    c.rules
+    let none = Counts { rules: 0, depth: 0 };
+    let c = push_rule(work, none, 0, BESIDE_SYMBOL);
+    number_samples(order, n, c, work)
 }
 
-// Pushes the rule of symbol i and does the joins that close behind it.
+// The same, once the mark's rule is pushed.
+fn number_samples(order: Order, n: usize, c: Counts, work: &mut [u32]) -> usize
+    requires { ⌜ Begun order n (now work) (c .rules) (c .depth) ⌝ }
+    ensures { λ r. ⌜ ((b : Begun order n (now (work .entry)) (c .rules) (c .depth)) → Rules order (numbered n (b .origin)) (now (work .exit)) × (r ≡ length (numbered n (b .origin)))) × Below (now (work .entry)) (now (work .exit)) ⌝ }
+{
+    let mut t = c;
+    let mut i = 1;
+    while i < n {
+        t = step(work, order, t, i);
+        i += 1;
+    }
+    t.rules
+}
+
+// Pushes the rule of sample i and does the joins that close behind it.
 fn step(work: &mut [u32], order: Order, c: Counts, i: usize) -> Counts
-    requires { ⌜ Steppable order (now work) (c .rules) (c .depth) i ⌝ }
+    requires { ⌜ Steppable order (now work) (c .rules) (c .depth) i × (0 < getD (now work) i 0) ⌝ }
     ensures { λ r. ⌜ ((p : Steppable order (now (work .entry)) (c .rules) (c .depth) i) → Holds order (stepped (p .s) (now (work .entry)) i) (now (work .exit)) (r .rules) (r .depth)) × Below (now (work .entry)) (now (work .exit)) ⌝ }
 {
     let x = number_of_rank(order, work[i]);

@@ -23,7 +23,7 @@ use Rattle.layout.specs.Layout.{TABLE, FOUND, FLAGS, PACK, Readable, lengthIn, 
 use Rattle.decoding.specs.declared.Rule.the-variants.{Pair}
 use Rattle.decoding.specs.Decoding.{ruleIn}
 use Rattle.lyndon.specs.Ruled.{SymbolOf, PairOf}
-use Rattle.joins.specs.Joining.{cutPlace, JoinCut}
+use Rattle.joins.specs.Joining.{cutPlace, Samples, JoinCut}
 use Rattle.joins.proofs.Joining.{cut-place-size}
 use Rattle.search.specs.Found.{occursIn, acrossJoin, FoundIn}
 use Rattle.search.specs.Searching.{Counting, CountedBefore, SymbolTurn}
@@ -112,6 +112,7 @@ pub record PairKnown (u v x : ℕ) (w : List ℕ) : Type 0 where
   pub left : Readable w u
   pub right : Readable w v
   pub inside : x + lengthIn w u + lengthIn w v ≤ 2048
+  pub samples : Samples (x + lengthIn w u + lengthIn w v) w
   pub most : countIn w u + countIn w v ≤ 4096
 
 module _ {o : Order} {p : List ℕ} {r : ℕ} {w : List ℕ} (h : CountedBefore o p r w) where
@@ -139,6 +140,7 @@ module _ {o : Order} {p : List ℕ} {r : ℕ} {w : List ℕ} (h : CountedBefore 
           left = record { low = omega arith; long = turn-known .long };
           right = record { low = omega arith; long = turn-known .long };
           inside = k .inside;
+          samples = k .samples;
           most = omega (arith, a, b, occurrences-most P (ruleString o t u), occurrences-most P (ruleString o t v), k .inside, k .left-size, k .right-size);
         }
 

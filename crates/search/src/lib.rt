@@ -17,8 +17,8 @@ use ranks::rank_of;
 use slices::put;
 ghost use mathlib.Core.Path.{_≡_};
 ghost use mathlib.Core.List.{List, map};
-ghost use Prim.Native.Nat.{ℕ, _+_, _/_, _%_, _≤_, _<_, min};
-ghost use lib.ListN.{length};
+ghost use Prim.Native.Nat.{ℕ, _+_, _*_, _/_, _%_, _≤_, _<_};
+ghost use lib.ListN.{length, getD};
 ghost use Rattle.definitions.specs.Table.{rankOf, tableOf, ruleCount};
 ghost use Rattle.definitions.specs.Occurrences.{occurrences};
 ghost use Rattle.layout.specs.Layout.{PACK};
@@ -41,17 +41,18 @@ fn count_rules(order: Order, pattern: &[u8], work: &mut [u32], rules: usize)
     requires { ⌜ Counts order (now pattern) rules 0 (now work) ⌝ }
     ensures { λ _. ⌜ ((text : List ℕ) (chair : ℕ) → Counting order (now (pattern .entry)) text chair 0 (now (work .entry)) → rules ≡ ruleCount (tableOf order text chair) → Counting order (now (pattern .entry)) text chair rules (now (work .exit))) ⌝ }
 {
+    let first = rank_of(order, pattern[0]);
     let mut r = 0;
     while r < rules {
-        let x = found_in(order, pattern, work, r);
+        let x = found_in(order, first, pattern, work, r);
         put(work, FOUND + r, x);
         r += 1;
     }
 }
 
-// What is found in rule r: its occurrences times PACK and the cut at its join.
-fn found_in(order: Order, pattern: &[u8], work: &[u32], r: usize) -> u32
-    requires { ⌜ CountedBefore order (now pattern) r (now work) ⌝ }
+// What is found in rule r: its occurrences times PACK and the cut at its join. `first` is the rank of the pattern's first sample.
+fn found_in(order: Order, first: u32, pattern: &[u8], work: &[u32], r: usize) -> u32
+    requires { ⌜ CountedBefore order (now pattern) r (now work) × (first ≡ rankOf order (getD (now pattern) 0 0)) ⌝ }
     ensures { λ x. ⌜ ((h : CountedBefore order (now (pattern .entry)) r (now (work .entry))) → FoundIn order (tableOf order (h .text) (h .chair)) (map (rankOf order) (now (pattern .entry))) r x) ⌝ }
 {
     let rule = rule_in(work, r);
@@ -60,8 +61,8 @@ fn found_in(order: Order, pattern: &[u8], work: &[u32], r: usize) -> u32
     };
     let left = length_of(work, u);
     let right = length_of(work, v);
-    let cut = cut_at_join(order, pattern, work, place_of(work, r), left, right);
-    found(number_of(work, u) + number_of(work, v), cut)
+    let joined = cut_at_join(order, first, pattern, work, place_of(work, r), left, right);
+    found(number_of(work, u) + number_of(work, v), joined)
 }
 
 // The same of a symbol rule: its rank stands where the rule does.
@@ -79,13 +80,10 @@ fn found_in_symbol(order: Order, pattern: &[u8], work: &[u32], r: usize) -> u32
     0
 }
 
-// The occurrences in both halves and at the join, and the cut there.
-fn found(halves: usize, cut: usize) -> u32
-    requires { ⌜ (halves ≤ 4096) × (cut < PACK) ⌝ }
-    ensures { λ x. ⌜ (x / PACK ≡ halves + min 1 cut) × (x % PACK ≡ cut) ⌝ }
+// The occurrences in both halves, and what is found at the join.
+fn found(halves: usize, joined: u32) -> u32
+    requires { ⌜ (halves ≤ 4096) × (joined < 2 * PACK) ⌝ }
+    ensures { λ x. ⌜ (x / PACK ≡ halves + joined / PACK) × (x % PACK ≡ joined % PACK) ⌝ }
 {
-    if cut == 0 {
-        return halves as u32 * PACK;
-    }
-    (halves + 1) as u32 * PACK + cut as u32
+    halves as u32 * PACK + joined
 }

@@ -1,4 +1,4 @@
--- A push in the code's terms: r is what looking the words x and y up among the n rules answers.
+-- A push in the code's terms: r is what looking the words x and y up among the n rules answers, one more than the rule or 0.
 use mathlib.Core.Path.{_≡_, refl, sym, _∙_, ap, subst}
 use mathlib.Core.List.{List, [], _∷_}
 use Prim.Native.Nat.{ℕ, _+_, _-_, _≤_, _<_}
@@ -9,12 +9,13 @@ use Rattle.definitions.specs.declared.Order.{Order}
 use Rattle.definitions.specs.Grammar.{Rule, pair}
 use Rattle.definitions.specs.Table.{wordOf}
 use Rattle.lists.specs.Numbers.{split-le}
-use Rattle.lists.specs.Newest.{newest, hasWords, newest-le}
+use Rattle.lists.specs.Newest.{latest, newest, hasWords, latest-le, newest-found, newest-nothing}
 use Rattle.lists.specs.Parts.{part}
 use Rattle.lyndon.specs.Rules.{find, intern, intern-old, intern-new}
 use Rattle.lyndon.specs.Encoding.{firstWord, secondWord}
 use Rattle.lyndon.specs.Closings.{State, push, joins}
-use Rattle.layout.specs.Layout.{STACK, TABLE, KIND, RIGHT_HALF}
+use Rattle.layout.specs.Layout.{STACK, LINKS, TABLE, KIND, RIGHT_HALF}
+use Rattle.dict.specs.Dictionary.{Dict}
 use Rattle.stack.specs.Areas.{added, Holds, Pushable, Joinable, Below}
 use Rattle.stack.proofs.Adding.{looked-up, added-below}
 use Rattle.stack.proofs.Stacks.{pushed-old, pushed-new, topped, join-once, joins-less, joins-room}
@@ -28,41 +29,53 @@ intern-longer K x = split-le (length K) (find x K)
 pub pushes-most : (w : List ℕ) (n d x y : ℕ) → Pushable w n d x y → n ≤ 2304
 pushes-most w n d x y p = omega (arith, p .holds .count, intern-longer (p .s .rules) (p .rule), p .room)
 
-module _ (w : List ℕ) (n d x y r : ℕ) (p : Pushable w n d x y) (e : r ≡ newest (hasWords (part TABLE 4608 w) x y) n) where
-  at : r ≡ find (p .rule) (p .s .rules)
+-- the links are those of the rules that are held
+pub links : (w : List ℕ) (n d x y : ℕ) → Pushable w n d x y → Dict (part TABLE 4608 w) (part LINKS 3328 w) n
+links w n d x y p = subst (Dict (part TABLE 4608 w) (part LINKS 3328 w)) (sym (p .holds .count)) (p .holds .rules .dict)
+
+module _ (w : List ℕ) (n d x y r : ℕ) (p : Pushable w n d x y) (e : (m : ℕ) → Dict (part TABLE 4608 w) (part LINKS 3328 w) m → r ≡ latest (hasWords (part TABLE 4608 w) x y) m) where
+  one-more : r ≡ latest (hasWords (part TABLE 4608 w) x y) n
+  one-more = e n (links w n d x y p)
+
+  pub found-most : r ≤ 2304
+  found-most = omega (arith, one-more, latest-le (hasWords (part TABLE 4608 w) x y) n, pushes-most w n d x y p)
+
+  at : newest (hasWords (part TABLE 4608 w) x y) n ≡ find (p .rule) (p .s .rules)
   at =
-      e
-      ∙ words
+      words
       ∙ ap (newest (hasWords (part TABLE 4608 w) (firstWord (p .o) (p .rule)) (secondWord 0 (p .rule)))) (p .holds .count)
       ∙ looked-up (p .o) (p .s .rules) w (p .rule) (p .holds .rules) (p .encodes) (omega (arith, pushes-most w n d x y p, p .holds .count))
     where
       words : newest (hasWords (part TABLE 4608 w) x y) n ≡ newest (hasWords (part TABLE 4608 w) (firstWord (p .o) (p .rule)) (secondWord 0 (p .rule))) n
       words = rw (p .first, p .second)
 
-  most : r ≤ n
-  most = omega (arith, e, newest-le (hasWords (part TABLE 4608 w) x y) n)
+  old : 0 < r → r - 1 ≡ find (p .rule) (p .s .rules)
+  old h = sym (newest-found (hasWords (part TABLE 4608 w) x y) n (r - 1) (omega (arith, one-more))) ∙ at
+
+  new : r ≡ 0 → n ≡ find (p .rule) (p .s .rules)
+  new h = sym (newest-nothing (hasWords (part TABLE 4608 w) x y) n (omega (arith, one-more))) ∙ at
 
   -- a rule that is not found has room
-  pub pushes-room : n ≤ r → n < 2304
+  pub pushes-room : r ≡ 0 → n < 2304
   pushes-room h =
       omega (
         arith,
         p .room,
         p .holds .count,
-        ap length (intern-new (p .s .rules) (p .rule) (omega (arith, at, p .holds .count))),
+        ap length (intern-new (p .s .rules) (p .rule) (omega (arith, new h, p .holds .count))),
         length-append (p .s .rules) (p .rule ∷ []),
       )
 
-  pub push-found : (v : List ℕ) → r < n → v ≡ set w (STACK + d) r → Holds (p .o) (push (p .s .rules) (p .rule) (p .s .stack)) v n (d + 1)
+  pub push-found : (v : List ℕ) → 0 < r → v ≡ set w (STACK + d) (r - 1) → Holds (p .o) (push (p .s .rules) (p .rule) (p .s .stack)) v n (d + 1)
   push-found v h q =
-      subst (λ (l : List ℕ). Holds (p .o) (push (p .s .rules) (p .rule) (p .s .stack)) l n (d + 1)) (sym (q ∙ ap (set w (STACK + d)) at))
-      (pushed-old (p .o) (p .s) w n d (p .rule) (p .holds) (p .low) (omega (arith, at)))
+      subst (λ (l : List ℕ). Holds (p .o) (push (p .s .rules) (p .rule) (p .s .stack)) l n (d + 1)) (sym (q ∙ ap (set w (STACK + d)) (old h)))
+      (pushed-old (p .o) (p .s) w n d (p .rule) (p .holds) (p .low) (omega (arith, old h, one-more, latest-le (hasWords (part TABLE 4608 w) x y) n)))
 
-  pub push-added : (u v : List ℕ) → n ≤ r → u ≡ added w n x y → v ≡ set u (STACK + d) n
+  pub push-added : (u v : List ℕ) → r ≡ 0 → u ≡ added w n x y → v ≡ set u (STACK + d) n
       → Holds (p .o) (push (p .s .rules) (p .rule) (p .s .stack)) v (n + 1) (d + 1)
   push-added u v h f q =
       subst (λ (l : List ℕ). Holds (p .o) (push (p .s .rules) (p .rule) (p .s .stack)) l (n + 1) (d + 1)) (sym (q ∙ ap (λ (l : List ℕ). set l (STACK + d) n) (f ∙ words)))
-      (pushed-new (p .o) (p .s) w n d (p .rule) (p .holds) (p .low) (omega (arith, at, most)) (pushes-room h) (p .encodes))
+      (pushed-new (p .o) (p .s) w n d (p .rule) (p .holds) (p .low) (omega (arith, new h)) (pushes-room h) (p .encodes))
     where
       words : added w n x y ≡ added w n (firstWord (p .o) (p .rule)) (secondWord 0 (p .rule))
       words = rw (p .first, p .second)

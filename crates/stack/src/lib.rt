@@ -8,9 +8,9 @@ use layout::TABLE;
 use layout::TABLE_END;
 use slices::put;
 ghost use mathlib.Core.Path.{_≡_};
-ghost use Prim.Native.Nat.{_≤_, _<_};
+ghost use Prim.Native.Nat.{ℕ, _≤_, _<_};
 ghost use lib.ListN.{length};
-ghost use Rattle.lists.specs.Newest.{newest, hasWords};
+ghost use Rattle.lists.specs.Newest.{latest, hasWords};
 ghost use Rattle.lists.specs.Parts.{part};
 ghost use Rattle.lyndon.specs.Closings.{push, joins};
 ghost use Rattle.layout.specs.Layout.{LINKS, TABLE, WORK};
@@ -60,9 +60,9 @@ pub fn push_rule(work: &mut [u32], c: Counts, x: u32, y: u32) -> Counts
 {
     let n = c.rules;
     let d = c.depth;
-    let r = look_up(work, n, x, y);
-    if r < n {
-        put(work, STACK + d, r as u32);
+    let r = look_up(work, x, y);
+    if 0 < r {
+        put(work, STACK + d, (r - 1) as u32);
         return Counts {
             rules: n,
             depth: d + 1,
@@ -76,12 +76,12 @@ pub fn push_rule(work: &mut [u32], c: Counts, x: u32, y: u32) -> Counts
     }
 }
 
-// The newest of the n rules with the words x and y, n if there is none.
-fn look_up(work: &[u32], n: usize, x: u32, y: u32) -> usize
-    requires { ⌜ Dict (part TABLE 4608 (now work)) (part LINKS 3328 (now work)) n × (n ≤ 2304) × (WORK ≤ length (now work)) ⌝ }
-    ensures { λ r. ⌜ r ≡ newest (hasWords (part TABLE 4608 (now (work .entry))) x y) n ⌝ }
+// One more than the newest rule with the words x and y, 0 if there is none.
+fn look_up(work: &[u32], x: u32, y: u32) -> usize
+    requires { ⌜ ((n : ℕ) × Dict (part TABLE 4608 (now work)) (part LINKS 3328 (now work)) n × (n ≤ 2304)) × (WORK ≤ length (now work)) ⌝ }
+    ensures { λ r. ⌜ ((n : ℕ) → Dict (part TABLE 4608 (now (work .entry))) (part LINKS 3328 (now (work .entry))) n → r ≡ latest (hasWords (part TABLE 4608 (now (work .entry))) x y) n) ⌝ }
 {
-    dict::find(&work[TABLE..TABLE_END], &work[LINKS..TABLE], n, x, y)
+    dict::find(&work[TABLE..TABLE_END], &work[LINKS..TABLE], x, y)
 }
 
 // Adds rule n with the words x and y.

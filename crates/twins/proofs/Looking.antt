@@ -1,5 +1,5 @@
 -- A rule looked up among those before it: it is a second mark (`second-mark`), or surely new (`first-new`, `left-before`, `right-before`), or the dictionary
--- decides (`looked-up`). Then it is linked (`linked-more`). The buckets begin cleared (`linked-none`).
+-- decides (`looked-up`). Then it is linked (`linked-more`). The buckets begin cleared (`linked-none`); in the end no rule but rule 0 is the mark (`only-mark`).
 use mathlib.Core.Path.{_≡_, refl, sym, _∙_, ap, subst}
 use mathlib.Core.Bool.{true, false}
 use mathlib.Core.Logic.{inl, inr}
@@ -11,14 +11,15 @@ use native.Mathlib.Numerals.{add-one}
 use lib.ListN.{length, take, drop, getD, set, replicate, length-set, length-append, length-drop, length-replicate, getD-replicate, List·getD-append}
 use lib.Seq.{length-take-le}
 use lib.Dec.{eqb}
+use borrow.Author.Tests.{eq-eqb}
 use Rattle.definitions.specs.declared.Order.{Order}
 use Rattle.definitions.specs.Words.{every}
-use Rattle.definitions.specs.Table.{wordOf, ruleCount, isTable}
+use Rattle.definitions.specs.Table.{wordOf, kindOf, ruleCount, isTable}
 use Rattle.lists.specs.Bools.{contra, not-so, and-intro}
 use Rattle.lists.specs.Numbers.{every-at}
-use Rattle.lists.specs.Newest.{newest, hasWords}
+use Rattle.lists.specs.Newest.{latest, newest, hasWords, newest-bound}
 use Rattle.lyndon.specs.Ruled.{Ruled, symbol, pair, ruled}
-use Rattle.lyndon.specs.Twins.{isNew, new-none}
+use Rattle.lyndon.specs.Twins.{isNew, twin-symbol, new-none, new-no-twin}
 use Rattle.lyndon.specs.Lookup.{pair-new, symbol-found, half-new}
 use Rattle.lyndon.specs.Accepted.{accepted-mark, accepted-samples}
 use Rattle.lyndon.specs.Judging.{judged}
@@ -62,12 +63,12 @@ module _ {t w : List ℕ} {r : ℕ} (k : Linked t r w) (h : r < ruleCount t) whe
       go (pair u v p) = half-new t (k .lent .shaped) h p (inr (omega (arith, p .second)))
 
   -- m is what the dictionary finds
-  pub looked-up : (getD t (2 * r) 0 ≡ 0 → ⊥) → (m : ℕ) → m ≡ newest (hasWords t (getD t (2 * r) 0) (getD t (2 * r + 1) 0)) r → isNew t r ≡ eqb m r
-  looked-up n m e = go (ruled t (k .lent .shaped) r h)
+  pub looked-up : (getD t (2 * r) 0 ≡ 0 → ⊥) → (m : ℕ) → m ≡ latest (hasWords t (getD t (2 * r) 0) (getD t (2 * r + 1) 0)) r → isNew t r ≡ eqb m 0
+  looked-up n m e = go (ruled t (k .lent .shaped) r h) ∙ newest-bound (hasWords t (getD t (2 * r) 0) (getD t (2 * r + 1) 0)) r ∙ ap (λ (i : ℕ). eqb i 0) (sym e)
     where
-      go : Ruled t r → isNew t r ≡ eqb m r
-      go (symbol a b p) = symbol-found t (k .lent .shaped) (k .mark) p h n ∙ ap (λ (i : ℕ). eqb i r) (sym e)
-      go (pair u v p) = pair-new t r (p .kind) ∙ ap (λ (i : ℕ). eqb i r) (sym e)
+      go : Ruled t r → isNew t r ≡ eqb (newest (hasWords t (getD t (2 * r) 0) (getD t (2 * r + 1) 0)) r) r
+      go (symbol a b p) = symbol-found t (k .lent .shaped) (k .mark) p h n
+      go (pair u v p) = pair-new t r (p .kind)
 
   pub linked-more : isNew t r ≡ true → (v : List ℕ)
       → v ≡ set (set w (0 + 1024 + r) (getD w (0 + bucketOf (getD t (2 * r) 0) (getD t (2 * r + 1) 0)) 0)) (0 + bucketOf (getD t (2 * r) 0) (getD t (2 * r + 1) 0)) (r + 1)
@@ -103,4 +104,12 @@ linked-none t w l k m e =
     }
 
 pub all-distinct : {t w : List ℕ} → Linked t (ruleCount t) w → Distinct t w
-all-distinct k = record { lent = k .lent; new = k .new }
+all-distinct k = record { lent = k .lent; mark = k .mark; new = k .new }
+
+-- no rule but rule 0 is the mark: it would have the word of rule 0, and not be new
+pub only-mark : {t w : List ℕ} → Distinct t w → (r : ℕ) → 0 < r → r < ruleCount t → getD t (2 * r) 0 ≡ 0 → ⊥
+unfolding kindOf
+only-mark {t} k r l h e =
+    contra
+    (twin-symbol t r 0 (ap kindOf e) ∙ eq-eqb (getD t 0 0) (getD t (2 * r) 0) (k .mark ∙ sym e))
+    (new-no-twin t r (every-at (isNew t) (ruleCount t) (k .new) r h) 0 l)

@@ -17,7 +17,8 @@ pub record Linked (t : List ℕ) (n : ℕ) (w : List ℕ) : Type 0 where
   pub dict : Dict t w n
   pub new : every (isNew t) n ≡ true
 
--- every rule is new
+-- every rule is new; rule 0 is the mark
 pub record Distinct (t w : List ℕ) : Type 0 where
   pub lent : InShape t w
+  pub mark : getD t 0 0 ≡ 0
   pub new : every (isNew t) (ruleCount t) ≡ true

@@ -63,5 +63,5 @@ fn is_new<'a>(table: &'a [u32], work: &'a [u32], r: usize) -> bool
     if wide(y) + 1 == wide(RIGHT_HALF) + r {
         return true;
     }
-    find(table, work, r, x, y) == r
+    find(table, work, x, y) == 0
 }

@@ -4,16 +4,30 @@ use Prim.Native.Nat.{ℕ, _+_, _≤_, _<_}
 use native.Mathlib.Omega.{arith}
 use borrow.Author.Needs.{needs}
 use Rattle.lists.specs.Bools.{contra}
-use Rattle.lyndon.specs.Ruled.{PairOf}
+use Rattle.lyndon.specs.Ruled.{SymbolOf, PairOf}
 use Rattle.layout.specs.Layout.{lengthIn}
 use Rattle.decoding.proofs.Rules.{symbol-read, pair-read}
 use Rattle.lengths.proofs.Sizes.{rules-few}
-use Rattle.filling.proofs.Rules.{place-room, symbol-written, left-room, left-copyable, right-copyable, pair-written, pair-judged}
+use Rattle.filling.proofs.Rules.{place-room, sample-number, symbol-written, left-room, left-copyable, right-copyable, pair-written, pair-judged}
 use Rattle.filling.proofs.fill_rule.Statement.{statement}
 use Rattle.filling.proofs.fill_rule.Tie as tie
 
 rule-of-requires : tie.Need-rule-of-requires
 rule-of-requires c κs = let s = c .before .before in omega (arith, s .pre .1, s .pre .0 .placed .sized .lent .shaped .even)
+
+is-symbol : (c : tie.After-rule) → let s = c .before .before .before .before .before .before .before in
+    SymbolOf (s .args .table .now) (s .args .r) (c .rule .given .0 .0) (c .rule .given .0 .1 .0)
+is-symbol c =
+    let (q, f) = c .rule .given in
+    let r = c .before .before .before .before in
+    let s = r .before .before .before in
+    symbol-read (s .args .table .now) (s .args .r) (s .pre .0 .placed .sized .lent .shaped) (s .pre .1) (q .0) (q .1 .0) (sym (r .rule-of .ensures) ∙ f)
+
+rank-of-number-requires : tie.Need-rank-of-number-requires
+rank-of-number-requires c κs =
+    let r = c .before .before in
+    let s = r .before .before .before .before .before .before .before in
+    sample-number (is-symbol r) (s .pre .2)
 
 put-requires : tie.Need-put-requires
 put-requires c κs =
@@ -26,11 +40,9 @@ returns c =
     let p = c .before .before in
     let r = p .before .before .before .before in
     let e = r .before .before in
-    let f = e .before .before in
-    let s = f .before .before .before in
-    let (q, g) = r .rule .given in
-    let is = symbol-read (s .args .table .now) (s .args .r) (s .pre .0 .placed .sized .lent .shaped) (s .pre .1) (q .0) (q .1 .0) (sym (f .rule-of .ensures) ∙ g) in
-    (λ t. symbol-written (s .pre .0) (s .pre .1) (e .wide .result) (e .wide .ensures) (q .0) (q .1 .0) is (p .put .last .0) (p .before .rank-of-number .result) (p .before .rank-of-number .ensures) (p .put .ensures), λ t. contra refl t)
+    let s = e .before .before .before .before .before in
+    let q = r .rule .given .0 in
+    (λ t. symbol-written (s .pre .0) (s .pre .1) (e .wide .result) (e .wide .ensures) (q .0) (q .1 .0) (is-symbol r) (p .put .last .0) (p .before .rank-of-number .result) (p .before .rank-of-number .ensures) (p .put .ensures), λ t. contra refl t)
 
 is-pair : (c : tie.After-rule2) → let s = c .before .before .before .before .before .before .before in
     PairOf (s .args .table .now) (s .args .r) (c .rule2 .given .0 .0) (c .rule2 .given .0 .1 .0)
@@ -94,5 +106,5 @@ returns-2 c =
 pub fill-rule-spec : {M : Type 1} → statement M
 fill-rule-spec =
     tie.close
-    (tie.spec rule-of-requires (λ c. let s = c .before .before .before in let z = rules-few (s .pre .0 .placed .sized .lent) in omega (arith, s .pre .1)) (λ c. let s = c .before .before .before in let z = rules-few (s .pre .0 .placed .sized .lent) in omega (arith, s .pre .1)) (λ c. let s = c .before .before .before .before in let z = rules-few (s .pre .0 .placed .sized .lent) in omega (arith, s .pre .1, s .pre .0 .placed .sized .lent .long)) (λ c κs. search needs) (λ c. search needs) (λ c κs. search needs) put-requires (λ c. search needs) returns (λ c. search needs)
+    (tie.spec rule-of-requires (λ c. let s = c .before .before .before in let z = rules-few (s .pre .0 .placed .sized .lent) in omega (arith, s .pre .1)) (λ c. let s = c .before .before .before in let z = rules-few (s .pre .0 .placed .sized .lent) in omega (arith, s .pre .1)) (λ c. let s = c .before .before .before .before in let z = rules-few (s .pre .0 .placed .sized .lent) in omega (arith, s .pre .1, s .pre .0 .placed .sized .lent .long)) (λ c κs. search needs) (λ c. search needs) rank-of-number-requires put-requires (λ c. search needs) returns (λ c. search needs)
     (λ c. omega (arith, room (c .before))) (λ c. omega (arith, room (c .before))) slice-read-wide-2 (λ c κs. search needs) (λ c. omega (arith, room (c .before .before .before), c .wide2 .ensures)) write-rule-requires write-rule-requires-2 in-order-requires (λ c. search needs) returns-2)

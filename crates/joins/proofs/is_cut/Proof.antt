@@ -6,7 +6,7 @@ use Prim.Native.Nat.{_+_, _-_}
 use native.Mathlib.Omega.{arith}
 use lib.ListN.{length}
 use Rattle.definitions.specs.Table.{rankOf}
-use Rattle.joins.proofs.Comparing.{same-part, not-same-part}
+use Rattle.joins.proofs.Comparing.{samples-part, same-part, not-same-part}
 use borrow.Author.Needs.{needs}
 use Rattle.joins.proofs.is_cut.Statement.{statement}
 use Rattle.joins.proofs.is_cut.Tie as tie
@@ -15,6 +15,13 @@ returns : tie.Need-returns
 returns c =
     let s = c .before .before .before .before in
     (λ e. absurd (false≢true e), λ e m q. s .pre .0 (s .args .c) m (c .if1 .taken))
+
+matches-requires : tie.Need-matches-requires
+matches-requires c κs =
+    let s = c .before .before .before .before .before in
+    let a = s .args in
+    let m = length (a .pattern .now) in
+    (omega (arith, s .pre .2), search needs, samples-part (a .work .now) (a .at) (a .at + m - a .at) m (omega arith) (s .pre .1), s .pre .6)
 
 returns-2 : tie.Need-returns-2
 returns-2 c =
@@ -30,4 +37,4 @@ pub is-cut-spec : {M : Type 1} → statement M
 is-cut-spec =
     tie.close
     (tie.spec (λ c. search needs) (λ c. search needs) (λ c. search needs) returns (λ c. search needs) (λ c. search needs) (λ c. search needs)
-    (λ c. search needs) (λ c. search needs) (λ c κs. search needs) returns-2)
+    (λ c. search needs) (λ c. search needs) matches-requires returns-2)

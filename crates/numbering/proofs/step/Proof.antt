@@ -10,7 +10,7 @@ push-rule-requires c κs =
     let x = c .before .before in
     let s = x .before .before .before in
     let a = s .args in
-    step-push (a .order) (a .work .now) (a .c .rules) (a .c .depth) (a .i) (s .pre) (x .number-of-rank .result) (x .number-of-rank .ensures)
+    step-push (a .order) (a .work .now) (a .c .rules) (a .c .depth) (a .i) (s .pre .0) (x .number-of-rank .result) (x .number-of-rank .ensures)
 
 join-all-requires : tie.Need-join-all-requires
 join-all-requires c κs =
@@ -18,7 +18,7 @@ join-all-requires c κs =
     let x = f .before .before .before in
     let s = x .before .before .before in
     let a = s .args in
-    step-join (a .order) (a .work .now) (a .c .rules) (a .c .depth) (a .i) (s .pre) (x .number-of-rank .result) (x .number-of-rank .ensures)
+    step-join (a .order) (a .work .now) (a .c .rules) (a .c .depth) (a .i) (s .pre .0) (x .number-of-rank .result) (x .number-of-rank .ensures)
     (f .push-rule .last .0) (f .push-rule .result .rules) (f .push-rule .result .depth) (f .push-rule .ensures .0)
 
 returns : tie.Need-returns

@@ -10,7 +10,7 @@ find-requires : tie.Need-find-requires
 unfolding part
 find-requires c κs =
     let s = c .before .before .before in
-    (s .pre .0, simp (length-take, length-drop) (omega arith), simp (length-take, length-drop) (omega arith))
+    (s .pre .0 .0, s .pre .0 .1, simp (length-take, length-drop) (omega arith), simp (length-take, length-drop) (omega arith))
 
 returns : tie.Need-returns
 unfolding part

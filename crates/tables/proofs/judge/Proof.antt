@@ -3,6 +3,7 @@ use mathlib.Core.Path.{_≡_}
 use mathlib.Core.Bool.{true}
 use borrow.Author.Needs.{needs}
 use borrow.Author.Tests.{not-true, not-false}
+use Rattle.twins.proofs.Looking.{only-mark}
 use Rattle.tables.specs.Loading.{Spelled}
 use Rattle.tables.proofs.Loading.{refused}
 use Rattle.tables.proofs.judge.Statement.{statement}
@@ -24,7 +25,10 @@ returns-2 c =
     refused (a .order) (a .table .now) (e .enter-all .last .1 .0) (e .enter-all .ensures .1 (not-true (e .enter-all .result) (c .if2 .taken)) .foreign (a .order))
 
 fill-all-requires : tie.Need-fill-all-requires
-fill-all-requires c κs = let e = c .before .before .before .before in e .enter-all .ensures .0 (not-false (e .enter-all .result) (c .before .if2 .left))
+fill-all-requires c κs =
+    let e = c .before .before .before .before in
+    let d = e .before .before .before .before .before .before .before .before .before .pre in
+    (e .enter-all .ensures .0 (not-false (e .enter-all .result) (c .before .if2 .left)), record { mark = d .mark; samples = only-mark d })
 
 returns-3 : tie.Need-returns-3
 returns-3 c =

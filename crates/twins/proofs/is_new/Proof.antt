@@ -38,13 +38,13 @@ find-requires : tie.Need-find-requires
 find-requires c κs =
     let s = c .before .before .before .before .before .before .before .before .before .before .before in
     let few = rules-few (s .pre .0 .lent) in
-    (s .pre .0 .dict, omega (arith, s .pre .1, s .pre .0 .lent .shaped .even), omega (arith, s .pre .1, s .pre .0 .lent .long))
+    (s .args .r, s .pre .0 .dict, omega (arith, s .pre .1, s .pre .0 .lent .shaped .even), omega (arith, s .pre .1, s .pre .0 .lent .long))
 
 returns-4 : tie.Need-returns-4
 returns-4 c =
     let x = c .before .before .before .before .before .before .before .before in
     let s = x .before .before .before .before in
-    let same = looked-up (s .pre .0) (s .pre .1) (x .if1 .left) (c .find .result) (c .find .ensures) in
+    let same = looked-up (s .pre .0) (s .pre .1) (x .if1 .left) (c .find .result) (c .find .ensures (s .args .r) (s .pre .0 .dict)) in
     (λ e. same ∙ e, λ e. not-new (s .pre .0) (s .pre .1) (same ∙ e))
 
 -- a word, and one more, fits
