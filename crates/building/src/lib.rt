@@ -3,10 +3,8 @@ use checks::clear_front;
 use checks::text_fits;
 use checks::work_fits;
 use definitions::Answer;
-use delivery::deliver;
-use layout::TABLE;
+use delivery::deliver_table;
 use layout::WORK;
-use ranks::SAMPLE_ORDER;
 ghost use mathlib.Core.List.{[], _∷_};
 ghost use Prim.Native.Nat.{_≤_};
 ghost use lib.ListN.{length};
@@ -36,6 +34,6 @@ fn build_in(text: &[u8], chair: u16, work: &mut [u32], result: &mut [u32]) -> An
     requires { ⌜ (length (now text) ≤ 2047) × (WORK ≤ length (now work)) ⌝ }
     ensures { λ r. ⌜ Serves (writes [] (tableOf sampleOrder (now (text .entry)) chair) 0 (now (result .entry))) (Answers r) (now (result .exit) ∷ []) ⌝ }
 {
-    let end = TABLE + 2 * grammar::table(SAMPLE_ORDER, text, chair, work);
-    deliver(&work[TABLE..end], result)
+    let rules = grammar::table(text, chair, work);
+    deliver_table(rules, work, result)
 }

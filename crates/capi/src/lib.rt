@@ -7,7 +7,7 @@ use replies::replied_read;
 use replies::replied_search;
 ghost use mathlib.Core.Path.{_≡_};
 ghost use mathlib.Core.List.{[], _∷_};
-ghost use Rattle.definitions.specs.Services.{Serves, sampleOrder, buildService, checkService, readService, extractService, countService, locateService, cutsService, lyndonLengthService, lyndonArrayService};
+ghost use Rattle.definitions.specs.Services.{Serves, sampleOrder, formerOrder, buildService, checkService, readService, extractService, countService, locateService, cutsService, lyndonLengthService, lyndonArrayService, convertOrderService};
 ghost use Rattle.definitions.specs.Replies.{Replies, SearchReplies, interfaceNumber};
 
 // The number of this interface, by which a program can tell another library from its own.
@@ -108,4 +108,12 @@ pub extern "C" fn sirbolta_lyndon_array(
     ensures { λ r. ⌜ Serves (lyndonArrayService sampleOrder (now (table .entry)) (now (work .entry)) (now (result .entry))) (Replies r) (now (work .exit) ∷ now (result .exit) ∷ []) ⌝ }
 {
     replied(index::lyndon_array(table, work, result))
+}
+
+// The table in the order of signed samples: `index::to_signed`.
+#[no_mangle]
+pub extern "C" fn sirbolta_to_signed(table: &[u32], work: &mut [u32], result: &mut [u32]) -> Reply
+    ensures { λ r. ⌜ Serves (convertOrderService formerOrder sampleOrder (now (table .entry)) (now (work .entry)) (now (result .entry))) (Replies r) (now (work .exit) ∷ now (result .exit) ∷ []) ⌝ }
+{
+    replied(index::to_signed(table, work, result))
 }

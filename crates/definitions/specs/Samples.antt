@@ -1,5 +1,6 @@
 -- The samples of document 01 that are marked P, its live cuts, its two examples of a cut at a join, its table of `abab` for chair 40, tables that it says are
--- foreign, some of its edges as outcomes of services, and what its program prints; and the arrays of S-1: by computation, under one claim.
+-- foreign, some of its edges as outcomes of services, and what its program prints; the arrays of S-1; and drives whose tables, cuts and lengths the order of S-2 changes: by
+-- computation, under one claim.
 use Prim.Native.Nat.{ℕ, _+_, _-_}
 use mathlib.Core.Path.{_≡_, refl}
 use mathlib.Core.Bool.{Bool, true, false, cond, _&&_}
@@ -17,7 +18,7 @@ use Rattle.definitions.specs.Words.{every, below, least, placed, same, b
 use Rattle.definitions.specs.Grammar.{leftOf, rightOf, word, split, lyndonTree, indexOf, meet, visit, order, ruleOf, rulesOf}
 use Rattle.definitions.specs.Table.{rankOf, byteOf, numberOfRank, rankOfNumber, marked, wordOf, kindOf, numberOf, ruleWords, words, tableOf, badFirst, badSecond, badWord, stringOf, strings, ruleString, isPair, leftHalf, rightHalf, spelled, textOf, chairOf, isDrive, isChair, isTable}
 use Rattle.definitions.specs.Occurrences.{occurrences, notGreaterAtDifference, isLive, liveCuts, patternCuts, straddles, straddling, cutIn, cutAt}
-use Rattle.definitions.specs.Services.{Numbers, Outcome, numbersOf, readOutcome, searchOutcome, Service, firstMet, outcome, outcomeOf, cleared, slicesAfter, sampleOrder, tableChecks, patternChecks, buildService, checkService, readService, extractService, countService, locateService, cutsService, lyndonLengthService, lyndonArrayService}
+use Rattle.definitions.specs.Services.{Numbers, Outcome, numbersOf, readOutcome, searchOutcome, Service, firstMet, outcome, outcomeOf, cleared, slicesAfter, sampleOrder, formerOrder, tableChecks, patternChecks, buildService, checkService, readService, extractService, countService, locateService, cutsService, lyndonLengthService, lyndonArrayService, convertOrderService}
 use Rattle.definitions.specs.Replies.{replyNumbers, searchNumbers}
 use Rattle.definitions.specs.Programs.{digits, digitsUpTo, digitCount, decimal, line, named, decimalLines, refusedLine, printed, motifOf, driveOf, foundLines, motifOutput}
 
@@ -47,6 +48,19 @@ twoRules =
     0x00000000 ∷ 0xC0000028 ∷ 0x00000062 ∷ 0xC0000000 ∷ 0x00000063 ∷ 0xC0000000 ∷ 0x40000001 ∷ 0x80000002
     ∷ 0x40000000 ∷ 0x80000003 ∷ 0x40000001 ∷ 0x80000002 ∷ 0x40000004 ∷ 0x80000005 ∷ []
 
+-- the samples -1 and 1: a Lyndon word
+abbrev pub rising : List ℕ
+rising = 255 ∷ 1 ∷ []
+
+abbrev pub ofRising : List ℕ
+ofRising =
+    0x00000000 ∷ 0xC0000028 ∷ 0x00000100 ∷ 0xC0000000 ∷ 0x00000002 ∷ 0xC0000000 ∷ 0x40000001 ∷ 0x80000002 ∷ 0x40000000 ∷ 0x80000003 ∷ []
+
+-- its table in the former order, where 255 is the greater sample
+abbrev pub ofRisingBefore : List ℕ
+ofRisingBefore =
+    0x00000000 ∷ 0xC0000028 ∷ 0x00000100 ∷ 0xC0000000 ∷ 0x40000000 ∷ 0x80000001 ∷ 0x00000002 ∷ 0xC0000000 ∷ 0x40000002 ∷ 0x80000003 ∷ []
+
 -- work slices: enough words
 abbrev pub room : List ℕ
 room = replicate 16384 7
@@ -69,6 +83,8 @@ pub data Sample : Type 0 where
   joins : List ℕ → ℕ → List ℕ → List ℕ → Sample
   -- the Lyndon array of the drive
   lengths : List ℕ → List ℕ → Sample
+  -- the ranks of the bytes
+  ranks : List ℕ → List ℕ → Sample
   -- the table of the drive and chair number, word by word
   table : List ℕ → ℕ → List ℕ → Sample
   -- the service ends with this number, place, count and chair number
@@ -122,6 +138,7 @@ holds (joins text r p places) =
     let q = map (rankOf sampleOrder) p in
     isPair t r && (same (straddling q u v) places && same (cutAt q (patternCuts sampleOrder p) u v) places)
 holds (lengths text l) = same (lyndonArray (map (rankOf sampleOrder) text)) l
+holds (ranks bytes l) = same (map (rankOf sampleOrder) bytes) l
 holds (table text chair t) = same (tableOf sampleOrder text chair) t
 holds (ends s number place count chair) = same (parts (outcome s)) (number ∷ place ∷ count ∷ chair ∷ [])
 holds (leaves s after) = same (last (slicesAfter s)) after
@@ -162,7 +179,10 @@ samples =
     ∷ cuts (a ∷ a ∷ b ∷ a ∷ []) (1 ∷ 3 ∷ [])
     ∷ cuts (a ∷ a ∷ a ∷ []) (1 ∷ 2 ∷ [])
     ∷ cuts (a ∷ []) []
-    ∷ cuts (97 ∷ 200 ∷ 100 ∷ []) (2 ∷ [])
+    ∷ cuts (97 ∷ 200 ∷ 100 ∷ []) (1 ∷ [])
+    ∷ cuts (0 ∷ 127 ∷ 128 ∷ []) (2 ∷ [])
+    ∷ cuts (0 ∷ 255 ∷ 1 ∷ []) (1 ∷ [])
+    ∷ ranks (128 ∷ 255 ∷ 0 ∷ 1 ∷ 127 ∷ []) (1 ∷ 128 ∷ 129 ∷ 130 ∷ 256 ∷ [])
     ∷ rules (255 ∷ 0 ∷ []) 5
     ∷ joins (a ∷ a ∷ b ∷ b ∷ []) 5 (a ∷ a ∷ b ∷ []) (0 ∷ [])
     ∷ joins (a ∷ b ∷ b ∷ b ∷ []) 5 (b ∷ b ∷ b ∷ []) (1 ∷ [])
@@ -171,9 +191,19 @@ samples =
     ∷ lengths (a ∷ a ∷ b ∷ []) (3 ∷ 2 ∷ 1 ∷ [])
     ∷ lengths (a ∷ a ∷ a ∷ a ∷ []) (1 ∷ 1 ∷ 1 ∷ 1 ∷ [])
     ∷ lengths (b ∷ a ∷ a ∷ b ∷ []) (1 ∷ 3 ∷ 2 ∷ 1 ∷ [])
-    ∷ lengths (97 ∷ 200 ∷ 100 ∷ []) (3 ∷ 1 ∷ 1 ∷ [])
+    ∷ lengths (97 ∷ 200 ∷ 100 ∷ []) (1 ∷ 2 ∷ 1 ∷ [])
+    ∷ lengths (1 ∷ 255 ∷ []) (1 ∷ 1 ∷ [])
+    ∷ lengths rising (2 ∷ 1 ∷ [])
+    ∷ lengths (127 ∷ 128 ∷ []) (1 ∷ 1 ∷ [])
+    ∷ lengths (128 ∷ 127 ∷ []) (2 ∷ 1 ∷ [])
+    ∷ lengths (128 ∷ 255 ∷ 0 ∷ 127 ∷ []) (4 ∷ 3 ∷ 2 ∷ 1 ∷ [])
     ∷ lengths [] []
     ∷ table abab 40 ofAbab
+    ∷ table rising 40 ofRising
+    ∷ rules (1 ∷ 255 ∷ []) 5
+    ∷ rules (127 ∷ 128 ∷ 127 ∷ 128 ∷ []) 7
+    ∷ rules (128 ∷ 127 ∷ 128 ∷ 127 ∷ []) 6
+    ∷ joins (1 ∷ 255 ∷ 1 ∷ []) 5 (1 ∷ 255 ∷ []) (1 ∷ [])
     ∷ ends (buildService sampleOrder abab 40 room (replicate 12 7)) 0 0 12 0
     ∷ ends (buildService sampleOrder abab 40 room (replicate 11 7)) 9 12 0 0
     ∷ ends (checkService sampleOrder ofAbab room) 0 0 6 0
@@ -222,6 +252,18 @@ samples =
     ∷ ends (lyndonArrayService sampleOrder (tableOf sampleOrder [] 40) room []) 0 0 0 0
     ∷ ends (lyndonArrayService sampleOrder ofAbab room (replicate 3 7)) 9 4 0 0
     ∷ ends (lyndonArrayService sampleOrder twoRules room []) 7 0 0 0
+    ∷ ends (checkService sampleOrder ofRisingBefore room) 7 0 0 0
+    ∷ ends (checkService formerOrder ofRisingBefore room) 0 0 5 0
+    ∷ ends (readService sampleOrder ofRising room (replicate 2 7)) 0 0 2 40
+    ∷ ends (convertOrderService formerOrder sampleOrder ofRisingBefore room (replicate 10 7)) 0 0 10 0
+    ∷ ends (convertOrderService formerOrder sampleOrder ofRisingBefore room (replicate 9 7)) 9 10 0 0
+    ∷ ends (convertOrderService formerOrder sampleOrder ofRising room []) 7 0 0 0
+    ∷ ends (convertOrderService formerOrder sampleOrder (drop 2 ofRising) room []) 6 5 0 0
+    ∷ ends (convertOrderService formerOrder sampleOrder (drop 1 ofRising) room []) 5 0 0 0
+    ∷ ends (convertOrderService formerOrder sampleOrder [] (drop 1 room) []) 4 0 0 0
+    ∷ leaves (convertOrderService formerOrder sampleOrder ofRisingBefore room (replicate 11 7)) (ofRising ++ (7 ∷ []))
+    ∷ leaves (convertOrderService formerOrder sampleOrder ofAbab room (replicate 12 7)) ofAbab
+    ∷ leaves (convertOrderService formerOrder sampleOrder ofRising room (replicate 10 7)) (replicate 10 7)
     ∷ leaves (lyndonArrayService sampleOrder ofAbab room (replicate 5 7)) (2 ∷ 1 ∷ 2 ∷ 1 ∷ 7 ∷ [])
     ∷ leaves (extractService sampleOrder ofAbab 1 2 room (replicate 3 7)) (b ∷ a ∷ 7 ∷ [])
     ∷ leaves (locateService sampleOrder ofAbab (a ∷ b ∷ []) room (replicate 1 7)) (7 ∷ [])
@@ -238,6 +280,9 @@ samples =
     ∷ clears (lyndonLengthService sampleOrder ofAbab 4 room) true
     ∷ clears (lyndonArrayService sampleOrder ofAbab room (replicate 3 7)) true
     ∷ clears (buildService sampleOrder abab 40 room (replicate 11 7)) true
+    ∷ clears (convertOrderService formerOrder sampleOrder ofRising room []) true
+    ∷ clears (convertOrderService formerOrder sampleOrder ofRisingBefore room (replicate 9 7)) true
+    ∷ clears (convertOrderService formerOrder sampleOrder (drop 2 ofRising) room []) false
     ∷ answers (Done 5) 0 0 5
     ∷ answers (Refused 6 5) 6 5 0
     ∷ reads (read.Done 5 40) 0 0 5 40
@@ -280,5 +325,5 @@ samples =
 
 -- every sample holds
 pub samples-hold : all samples ≡ true
-unfolding edges holds all samples four parts numbersOf readOutcome searchOutcome replyNumbers searchNumbers every below least placed same begins lexlt lyndon cutOf greatest lyndonLength lyndonArray leftOf rightOf word split lyndonTree indexOf meet visit order ruleOf rulesOf rankOf byteOf numberOfRank rankOfNumber marked wordOf kindOf numberOf ruleWords words tableOf badFirst badSecond badWord stringOf strings ruleString isPair leftHalf rightHalf spelled textOf chairOf isDrive isChair isTable occurrences notGreaterAtDifference isLive liveCuts patternCuts straddles straddling cutIn cutAt firstMet outcome outcomeOf cleared slicesAfter last tableChecks patternChecks buildService checkService readService extractService countService locateService cutsService lyndonLengthService lyndonArrayService digits digitsUpTo digitCount decimal line named decimalLines refusedLine printed motifOf driveOf foundLines motifOutput
+unfolding edges holds all samples four parts numbersOf readOutcome searchOutcome replyNumbers searchNumbers every below least placed same begins lexlt lyndon cutOf greatest lyndonLength lyndonArray leftOf rightOf word split lyndonTree indexOf meet visit order ruleOf rulesOf rankOf byteOf numberOfRank rankOfNumber marked wordOf kindOf numberOf ruleWords words tableOf badFirst badSecond badWord stringOf strings ruleString isPair leftHalf rightHalf spelled textOf chairOf isDrive isChair isTable occurrences notGreaterAtDifference isLive liveCuts patternCuts straddles straddling cutIn cutAt firstMet outcome outcomeOf cleared slicesAfter last tableChecks patternChecks buildService checkService readService extractService countService locateService cutsService lyndonLengthService lyndonArrayService convertOrderService digits digitsUpTo digitCount decimal line named decimalLines refusedLine printed motifOf driveOf foundLines motifOutput
 samples-hold = refl

@@ -1,4 +1,4 @@
--- What each service answers and leaves in the slices lent to it (document 01, "When a request is turned down"; document 02, S-1).
+-- What each service answers and leaves in the slices lent to it (document 01, "When a request is turned down"; document 02, S-1 and S-2).
 -- A service's checks are an ordered list; the first that is met decides number, place and what becomes of each lent slice.
 use Prim.Native.Nat.{ℕ, _+_, _%_}
 use mathlib.Core.Bool.{Bool, true, false, cond, not, _||_}
@@ -7,7 +7,7 @@ use mathlib.Core.List.{List, [], _∷_, _++_, map}
 use lib.ListN.{length, take, drop, replicate}
 use lib.Dec.{ltb, eqb}
 use Rattle.definitions.specs.declared.Order.{Order}
-use Rattle.definitions.specs.declared.Order.the-variants.{Unsigned}
+use Rattle.definitions.specs.declared.Order.the-variants.{Unsigned, Signed}
 use Rattle.definitions.specs.declared.Answer.{Answer}
 use Rattle.definitions.specs.declared.Answer.the-variants as answer
 use Rattle.definitions.specs.declared.ReadAnswer.{ReadAnswer}
@@ -148,9 +148,12 @@ resultTooShort needed n = check (ltb n needed) 9 needed true
 
 -- ---- the services: t is a table, work and result are what the lent slices hold before
 
--- the order of samples that the services speak of
+-- the order of samples that the services speak of, and the one that they spoke of before request S-2
 abbrev pub sampleOrder : Order
-sampleOrder = Unsigned
+sampleOrder = Signed
+
+abbrev pub formerOrder : Order
+formerOrder = Unsigned
 
 -- what a table that is handed over must pass, with n words of work
 unfoldable pub tableChecks : Order → List ℕ → ℕ → List Check
@@ -210,3 +213,7 @@ lyndonLengthService o t position work =
 -- the Lyndon array of a drive: these lengths at all positions
 unfoldable pub lyndonArrayService : Order → List ℕ → List ℕ → List ℕ → Service
 lyndonArrayService o t work result = working work (writes (tableChecks o t (length work)) (lyndonArray (map (rankOf o) (textOf o t))) 0 result)
+
+-- convert a table from one order of samples to another: the table of its drive and chair number there
+unfoldable pub convertOrderService : Order → Order → List ℕ → List ℕ → List ℕ → Service
+convertOrderService o p t work result = working work (writes (tableChecks o t (length work)) (tableOf p (textOf o t) (chairOf t)) 0 result)

@@ -7,19 +7,21 @@ use mathlib.Core.List.{List, [], _∷_, _++_, map}
 use lib.ListN.{length, drop, getD}
 use lib.Dec.{ltb, leb, eqb}
 use Rattle.definitions.specs.declared.Order.{Order}
-use Rattle.definitions.specs.declared.Order.the-variants.{Unsigned}
+use Rattle.definitions.specs.declared.Order.the-variants.{Unsigned, Signed}
 use Rattle.definitions.specs.Words.{every, same}
 use Rattle.definitions.specs.Grammar.{Rule, symbol, pair, rulesOf}
 
 -- ---- bytes, ranks and symbol numbers
 
--- the rank of a byte in an order of samples, from 1 on
+-- the rank of a byte in an order of samples, from 1 on; signed, the bytes 128 to 255 mean -128 to -1 and come first
 unfoldable pub rankOf : Order → ℕ → ℕ
 rankOf Unsigned b = suc b
+rankOf Signed b = suc ((b + 128) % 256)
 
 -- the byte of a rank
 unfoldable pub byteOf : Order → ℕ → ℕ
 byteOf Unsigned r = r - 1
+byteOf Signed r = (r + 127) % 256
 
 -- the number of a rank in a symbol rule: 0 for the mark, else byte + 1
 unfoldable pub numberOfRank : Order → ℕ → ℕ

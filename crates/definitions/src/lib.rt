@@ -1,8 +1,9 @@
 // The answers of the services, and the order of samples. What each means is said in specs/.
 
-// The order in which samples are compared: as unsigned bytes.
+// The order in which samples are compared: as unsigned bytes, or as signed ones, where a byte of 128 or more means itself minus 256.
 pub enum Order {
     Unsigned,
+    Signed,
 }
 
 // The service is done, with the number that success gives; or it is refused, with number and place.

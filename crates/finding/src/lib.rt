@@ -1,51 +1,45 @@
-// Searching the text that is loaded: its occurrences of a pattern counted, or written to the front of the result slice or refused by 9; and the
-// live cuts of a pattern, written or refused likewise.
+// Searching the text that is loaded, in the order that the services speak of: its occurrences of a pattern counted, or written to the front of the result slice
+// or refused by 9; and the live cuts of a pattern, written or refused likewise.
 use definitions::Answer;
-use definitions::Order;
+use ranks::SAMPLE_ORDER;
 use results::result_fits;
 ghost use mathlib.Core.Path.{_≡_};
 ghost use mathlib.Core.List.{[], _∷_};
 ghost use Prim.Native.Nat.{_≤_, _<_};
 ghost use lib.ListN.{length};
 ghost use Rattle.definitions.specs.Occurrences.{occurrences, patternCuts};
-ghost use Rattle.definitions.specs.Services.{Serves, Answers, writes};
+ghost use Rattle.definitions.specs.Services.{Serves, Answers, sampleOrder, writes};
 ghost use Rattle.state.specs.State.{Ready, rulesLoaded};
 ghost use Rattle.listing.specs.Listing.{Finds, rulesCounted};
 ghost use Rattle.search.specs.Searching.{Searched};
 
 // Counts in the text that is loaded, whose table has so many rules.
-pub fn count_loaded(order: Order, pattern: &[u8], rules: usize, work: &mut [u32]) -> usize
-    requires { ⌜ ((h : Ready (now work)) × (h .order ≡ order) × (rules ≡ rulesLoaded h) × (0 < length (now pattern)) × (length (now pattern) ≤ 2047)) ⌝ }
-    ensures { λ n. ⌜ ((h : Ready (now (work .entry))) → h .order ≡ order → rules ≡ rulesLoaded h → (n ≡ length (occurrences (now (pattern .entry)) (h .text))) × Searched order (now (pattern .entry)) (h .text) (h .chair) (now (work .exit))) ⌝ }
+pub fn count_loaded(pattern: &[u8], rules: usize, work: &mut [u32]) -> usize
+    requires { ⌜ ((h : Ready (now work)) × (h .order ≡ sampleOrder) × (rules ≡ rulesLoaded h) × (0 < length (now pattern)) × (length (now pattern) ≤ 2047)) ⌝ }
+    ensures { λ n. ⌜ ((h : Ready (now (work .entry))) → h .order ≡ sampleOrder → rules ≡ rulesLoaded h → (n ≡ length (occurrences (now (pattern .entry)) (h .text))) × Searched sampleOrder (now (pattern .entry)) (h .text) (h .chair) (now (work .exit))) ⌝ }
 {
-    search::count(order, pattern, work, rules)
+    search::count(SAMPLE_ORDER, pattern, work, rules)
 }
 
 // Lists in the text that is loaded, whose table has so many rules, or refuses by 9.
-pub fn locate_loaded(
-    order: Order,
-    pattern: &[u8],
-    rules: usize,
-    work: &mut [u32],
-    result: &mut [u32],
-) -> Answer
-    requires { ⌜ ((h : Ready (now work)) × (h .order ≡ order) × (rules ≡ rulesLoaded h) × (0 < length (now pattern)) × (length (now pattern) ≤ 2047)) ⌝ }
-    ensures { λ r. ⌜ ((h : Ready (now (work .entry))) → h .order ≡ order → rules ≡ rulesLoaded h → Serves (writes [] (occurrences (now (pattern .entry)) (h .text)) 0 (now (result .entry))) (Answers r) (now (result .exit) ∷ [])) ⌝ }
+pub fn locate_loaded(pattern: &[u8], rules: usize, work: &mut [u32], result: &mut [u32]) -> Answer
+    requires { ⌜ ((h : Ready (now work)) × (h .order ≡ sampleOrder) × (rules ≡ rulesLoaded h) × (0 < length (now pattern)) × (length (now pattern) ≤ 2047)) ⌝ }
+    ensures { λ r. ⌜ ((h : Ready (now (work .entry))) → h .order ≡ sampleOrder → rules ≡ rulesLoaded h → Serves (writes [] (occurrences (now (pattern .entry)) (h .text)) 0 (now (result .entry))) (Answers r) (now (result .exit) ∷ [])) ⌝ }
 {
-    let n = count_loaded(order, pattern, rules, work);
+    let n = count_loaded(pattern, rules, work);
     deliver_found(n, rules, work, result)
 }
 
 // Lists the live cuts of a pattern, or refuses by 9.
-pub fn deliver_cuts(order: Order, pattern: &[u8], result: &mut [u32]) -> Answer
+pub fn deliver_cuts(pattern: &[u8], result: &mut [u32]) -> Answer
     requires { ⌜ length (now pattern) ≤ 2047 ⌝ }
-    ensures { λ r. ⌜ Serves (writes [] (patternCuts order (now (pattern .entry))) 0 (now (result .entry))) (Answers r) (now (result .exit) ∷ []) ⌝ }
+    ensures { λ r. ⌜ Serves (writes [] (patternCuts sampleOrder (now (pattern .entry))) 0 (now (result .entry))) (Answers r) (now (result .exit) ∷ []) ⌝ }
 {
-    let a = result_fits(cuts::count(order, pattern), result.len());
+    let a = result_fits(cuts::count(SAMPLE_ORDER, pattern), result.len());
     let Answer::Done(_) = a else {
         return a;
     };
-    cuts::write(order, pattern, result);
+    cuts::write(SAMPLE_ORDER, pattern, result);
     a
 }
 

@@ -16,7 +16,7 @@ use Rattle.lists.specs.Numbers.{split-le}
 use Rattle.lists.specs.Members.{at-in}
 use Rattle.lists.specs.Parts.{part, part-length, part-at, part-set, part-set-behind, part-agree}
 use Rattle.lyndon.specs.Forest.{forest, longests}
-use Rattle.lyndon.specs.Ranks.{slice-bytes, marked-lyndon, marked-symbols, marked-length}
+use Rattle.lyndon.specs.Ranks.{slice-bytes, marked-lyndon, behind-mark, marked-symbols, marked-length}
 use Rattle.lyndon.specs.Sequence.{order-filled}
 use Rattle.lyndon.specs.Rules.{rulesFor, rules-length, rule-at, rule-symbol}
 use Rattle.lyndon.specs.Encoding.{firstWord, secondWord, words-cons}
@@ -54,10 +54,14 @@ module _ (o : Order) (n chair : ℕ) (w₀ w : List ℕ) (m : Marked o n chair w
   rules-size = rules-length (order (marked o (m .text)))
 
   pub ended-numbers : Numberable n w
+  unfolding marked
   ended-numbers =
       record {
+        filled = omega (arith, m .size);
         short = omega (arith, m .size, m .stored .short);
         long = omega (arith, m .long);
+        mark = sym (rank-at 0 (omega (arith, m .size)));
+        samples = λ i z h. subst (λ (x : ℕ). 0 < x) (rank-at i h) (behind-mark o (m .text) (m .stored .bytes) i z (omega (arith, m .size)));
         ranks = λ i h. subst (λ (x : ℕ). x < 257) (rank-at i h) (marked-symbols o (m .text) (m .stored .bytes) (getD (marked o (m .text)) i 0) (at-in (marked o (m .text)) i (omega (arith, m .size, marked-length o (m .text)))));
         enough = subst (Enough 0) (sym ended-close) (forest-enough 0 (forest (marked o (m .text))));
         room = omega (arith, ap length ended-numbered, rules-size, order-most o (m .text) chair (m .stored));

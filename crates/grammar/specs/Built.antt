@@ -2,9 +2,9 @@
 -- function of the text.
 use mathlib.Core.Path.{_≡_, _∙_, ap}
 use mathlib.Core.List.{List}
-use Prim.Native.Nat.{ℕ, suc, _+_, _-_, _*_, _≤_}
+use Prim.Native.Nat.{ℕ, suc, _*_, _≤_}
 use native.Mathlib.Omega.{arith}
-use lib.ListN.{length, take, drop}
+use lib.ListN.{length}
 use Rattle.definitions.specs.declared.Order.{Order}
 use Rattle.definitions.specs.Grammar.{order as orderOf}
 use Rattle.definitions.specs.Table.{marked, tableOf}
@@ -30,11 +30,10 @@ pub record Built (o : Order) (text : List ℕ) (chair : ℕ) (w : List ℕ) : Ty
 
 -- the words of the table that is made
 pub built-words : (o : Order) (text w : List ℕ) (chair r : ℕ) → Stored text chair → Built o text chair w → r ≡ length (orderOf (marked o text))
-    → take (TABLE + 2 * r - TABLE) (drop TABLE w) ≡ tableOf o text chair
-unfolding part
+    → part TABLE (2 * r) w ≡ tableOf o text chair
 built-words o text w chair r k l e =
-    let size : TABLE + 2 * r - TABLE ≡ length (tableOf o text chair) = omega (arith, table-length o text chair k) in
-    ap (λ (n : ℕ). take n (drop TABLE w)) size ∙ l .table
+    let size : 2 * r ≡ length (tableOf o text chair) = omega (arith, table-length o text chair k) in
+    ap (λ (n : ℕ). part TABLE n w) size ∙ l .table
 
 pub rules-most : (o : Order) (text : List ℕ) (chair r : ℕ) → Stored text chair → r ≡ length (orderOf (marked o text)) → r ≤ 2304
 rules-most o text chair r k e = omega (arith, order-most o text chair k)

@@ -2,6 +2,7 @@
 // What it answers and what every lent slice holds afterwards is given by its definition, from the inputs alone.
 pub use building::build;
 pub use checking::check;
+pub use converting::to_signed;
 pub use lyndon_words::lyndon_array;
 pub use lyndon_words::lyndon_length;
 pub use reading::extract;

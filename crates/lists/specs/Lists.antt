@@ -1,10 +1,11 @@
 -- Laws of lists: how two splits of one list overlap, lists with more behind (`Extends`), and the front of a slice, `placed`.
 use mathlib.Core.Path.{_≡_, refl, sym, _∙_, ap, ap₂}
-use mathlib.Core.List.{List, [], _∷_, _++_, append-assoc, append-nil, head-eq-of-cons-eq, tail-eq-of-cons-eq}
+use mathlib.Core.List.{List, [], _∷_, _++_, map, map-append, append-assoc, append-nil, head-eq-of-cons-eq, tail-eq-of-cons-eq}
 use Prim.Native.Nat.{ℕ, suc, _+_, _-_, _≤_, _<_}
 use native.Mathlib.Omega.{arith}
-use lib.ListN.{length, take, drop, getD, set, length-append, length-drop, drop-of-length-le}
-use lib.Seq.{drop-cons, set-at, take-all, take-at, take-append-seam, drop-at, drop-drop}
+use native.Mathlib.Numerals.{add-one}
+use lib.ListN.{length, take, drop, getD, set, length-map, length-append, length-drop, drop-of-length-le}
+use lib.Seq.{drop-cons, set-at, take-all, take-at, take-suc, take-append-seam, length-take-le, drop-at, drop-drop, getD-append-add, getD-drop}
 use Rattle.definitions.specs.Words.{placed}
 
 module _ {ℓ} {A : Type ℓ} where
@@ -94,3 +95,37 @@ module _ {ℓ} {A : Type ℓ} where
       ∙ append-nil (placed v (drop (length u) old)))
       ∙ sym (append-assoc u v (drop (length v) (drop (length u) old)))
       ∙ ap (λ (l : List A). (u ++ v) ++ l) (drop-drop (length v) (length u) old ∙ ap (λ (k : ℕ). drop k old) (sym (length-append u v)))
+
+-- the values of f at a list, placed one by one; the list may be what the slice held before
+pub mapped-more : (f : ℕ → ℕ) (l old w : List ℕ) (i : ℕ) → i < length l → length l ≤ length old → w ≡ placed (map f (take i l)) old
+    → set w i (f (getD l i 0)) ≡ placed (map f (take (i + 1) l)) old
+mapped-more f l old w i h k e =
+    ap (λ (z : List ℕ). set z i x) e
+    ∙ ap (λ (n : ℕ). set (placed front old) n x) (sym size)
+    ∙ sym (placed-more front old x (omega (arith, size)))
+    ∙ ap (λ (z : List ℕ). placed z old) more
+  where
+    x : ℕ
+    x = f (getD l i 0)
+
+    front : List ℕ
+    front = map f (take i l)
+
+    size : length (map f (take i l)) ≡ i
+    size = length-map (take i l) f ∙ length-take-le i l (omega arith)
+
+    more : map f (take i l) ++ (f (getD l i 0) ∷ []) ≡ map f (take (i + 1) l)
+    more = sym (map-append f (take i l) (getD l i 0 ∷ [])) ∙ ap (map f) (sym (take-suc l i 0 h) ∙ ap (λ (n : ℕ). take n l) (sym (add-one i)))
+
+-- what stands behind them is as before
+pub mapped-rest : (f : ℕ → ℕ) (l : List ℕ) (i : ℕ) → i < length l → getD (placed (map f (take i l)) l) i 0 ≡ getD l i 0
+unfolding placed
+mapped-rest f l i h =
+    ap (λ (n : ℕ). getD (map f (take i l) ++ drop n l) i 0) size
+    ∙ ap (λ (n : ℕ). getD (map f (take i l) ++ drop i l) n 0) (sym (omega (arith, size)))
+    ∙ getD-append-add (map f (take i l)) (drop i l) 0 0
+    ∙ getD-drop i l 0 0
+    ∙ ap (λ (n : ℕ). getD l n 0) (omega arith)
+  where
+    size : length (map f (take i l)) ≡ i
+    size = length-map (take i l) f ∙ length-take-le i l (omega arith)

@@ -1,13 +1,14 @@
 -- Calls that serve, by the check that decides: refused by one of the checks (`refused-by`, `refused-front`), or decided by those behind them (`passed`),
--- in the end by none (`served`). A work slice that is cleared can be lent besides (`worked`), and an answer stated otherwise (`restated`, `said`).
+-- in the end by none (`served`; back: `done-passed`, `done-served`). A work slice that is cleared can be lent besides (`worked`), and an answer stated otherwise (`restated`, `said`).
 use mathlib.Core.Path.{_≡_, refl, sym, _∙_, ap, ap₂, subst}
 use mathlib.Core.Bool.{Bool, true, false, cond}
 use mathlib.Core.Logic.{_⊎_, inl, inr}
 use mathlib.Core.List.{List, [], _∷_, _++_, map}
 use Prim.Native.Nat.{ℕ}
+use native.Mathlib.Omega.{arith}
 use Rattle.definitions.specs.declared.Answer.{Answer}
 use Rattle.definitions.specs.declared.Answer.the-variants.{Refused}
-use Rattle.definitions.specs.Services.{Outcome, refused, outcomeOf, Check, Lent, workSlice, Service, firstMet, outcome, slicesAfter, cleared, Serves, Answers}
+use Rattle.definitions.specs.Services.{Outcome, done, refused, outcomeOf, Check, Lent, workSlice, Service, firstMet, outcome, slicesAfter, cleared, Serves, Answers}
 use Rattle.lists.specs.Decisions.{First, met, later, Passed, decide, first-decides, passed-all, passed-front, first-before, answered, refused-some}
 
 abbrev pub by : List Check → Outcome → List Lent → Service
@@ -50,6 +51,29 @@ module _ {checks : List Check} {success : Outcome} {lent : List Lent} {A : Outco
     slices = v .slices
         ∙ sym (same-map (λ x. firstMet (front ++ checks) (x .ifRefused) (x .ifDone)) (λ x. firstMet checks (x .ifRefused) (x .ifDone)) (λ x. passed-front checks (x .ifRefused) (x .ifDone) p) lent);
   }
+
+-- and back: a service that is done has met none of its checks
+pub done-passed : (s : Service) {k c : ℕ} → outcome s ≡ done k c → Passed (s .checks)
+unfolding outcome
+done-passed s {k} {c} e = go (decide (s .checks))
+  where
+    go : ((d : Check) × First d (s .checks)) ⊎ Passed (s .checks) → Passed (s .checks)
+    go (inl (d, f)) =
+        let g : refused (d .number) (d .place) ≡ done k c = sym (first-decides d (λ x. refused (x .number) (x .place)) (s .success) f) ∙ e in
+        let z : _≡_ {A = ℕ} 0 1 = cc in
+        absurd (omega arith)
+    go (inr p) = p
+
+-- a call that serves and is done answers the service's success, and the lent slices hold what success leaves there
+pub done-served : {s : Service} (r : Answer) {held : List (List ℕ)} {k c : ℕ} → Serves s (Answers r) held → outcomeOf r ≡ done k c
+    → Passed (s .checks) × (s .success ≡ done k c) × (held ≡ map (λ x. x .ifDone) (s .lent))
+unfolding outcome slicesAfter
+done-served {s} r v e =
+    let p = done-passed s (sym (v .answer) ∙ e) in (
+      p,
+      sym (v .answer ∙ passed-all (λ x. refused (x .number) (x .place)) (s .success) p) ∙ e,
+      v .slices ∙ same-map (λ x. firstMet (s .checks) (x .ifRefused) (x .ifDone)) (λ x. x .ifDone) (λ x. passed-all (x .ifRefused) (x .ifDone) p) (s .lent),
+    )
 
 -- the same service answered in other words
 pub said : {s : Service} {A B : Outcome → Type 0} {held : List (List ℕ)} → ((o : Outcome) → A o → B o) → Serves s A held → Serves s B held

@@ -1,8 +1,9 @@
 -- The rules of an accepted table: their strings are those of a marked drive's grammar. So no two are alike (`accepted-once`), each is a Lyndon word (`accepted-lyndon`)
--- of at most 2,048 symbols (`accepted-short`), and rule 0 is the mark and no other rule is (`accepted-mark`, `accepted-samples`): what a pass over them may refuse by.
+-- of at most 2,048 symbols (`accepted-short`), all of them the marked drive's (`accepted-symbols`), and rule 0 is the mark and no other rule is (`accepted-mark`, `accepted-samples`):
+-- what a pass over them may refuse by.
 use mathlib.Core.Path.{_≡_, sym, _∙_, ap, subst}
 use mathlib.Core.Bool.{true}
-use mathlib.Core.List.{List, [], _∷_, head-eq-of-cons-eq}
+use mathlib.Core.List.{List, [], _∷_, head-eq-of-cons-eq, List·Memᴰ as In, Memᴰ·append-left as in-left, Memᴰ·append-right as in-right}
 use Prim.Native.Nat.{ℕ, _*_, _≤_, _<_}
 use native.Mathlib.Omega.{arith}
 use lib.ListN.{length, getD, length-append}
@@ -50,6 +51,12 @@ module _ (o : Order) (t : List ℕ) (a : isTable o t ≡ true) where
   accepted-short r h =
       order-all (λ x. length x ≤ 2048) (λ u v k. let sum = length-append u v in (omega arith, omega arith)) (marked o (textOf o t)) drive-lyndon
       (omega (arith, marked-length o (textOf o t), accepted-stored o t a .short)) (ruleString o t r) (string-has r h)
+
+  -- its symbols are those of the marked drive
+  pub accepted-symbols : (r : ℕ) → r < ruleCount t → (b : ℕ) → In b (ruleString o t r) → In b (marked o (textOf o t))
+  accepted-symbols r h =
+      order-all (λ x. (b : ℕ) → In b x → In b (marked o (textOf o t))) (λ u v k. (λ b m. k b (in-left v m), λ b m. k b (in-right u m))) (marked o (textOf o t)) drive-lyndon
+      (λ b m. m) (ruleString o t r) (string-has r h)
 
   -- ---- the mark
 

@@ -1,17 +1,16 @@
 -- What building writes, checking accepts (`built-checked`) and reading gives back, drive and chair number (`built-read`); checking accepts
 -- nothing else (`checked-built`). All of the services' definitions alone.
-use mathlib.Core.Path.{_≡_, refl, sym, _∙_}
-use mathlib.Core.Logic.{_⊎_, inl, inr}
-use mathlib.Core.List.{List, [], _∷_}
+use mathlib.Core.Path.{_≡_, refl, sym, subst}
+use mathlib.Core.List.{List, [], _∷_, _++_, append-nil}
 use Prim.Native.Nat.{ℕ, _≤_}
-use native.Mathlib.Omega.{arith}
 use lib.ListN.{length}
 use borrow.Author.Tests.{le-ltb}
 use Rattle.definitions.specs.declared.Order.{Order}
 use Rattle.definitions.specs.Words.{placed}
 use Rattle.definitions.specs.Table.{tableOf, ruleCount}
-use Rattle.definitions.specs.Services.{done, refused, Check, firstMet, cleared, outcome, slicesAfter, tableChecks, checkService, readService}
-use Rattle.lists.specs.Decisions.{First, Passed, none, more, decide, first-decides}
+use Rattle.definitions.specs.Services.{done, Check, firstMet, cleared, outcome, slicesAfter, tableChecks, checkService, readService}
+use Rattle.lists.specs.Decisions.{Passed, more}
+use Rattle.lists.specs.Serving.{done-passed}
 use Rattle.lyndon.specs.Stored.{Stored, Acceptable, passes, table-text, table-chair}
 
 -- the work slice is long enough
@@ -35,15 +34,13 @@ module _ (o : Order) (text : List ℕ) (chair : ℕ) (work : List ℕ) (ok : Sto
     built-back =
         rw (le-ltb (length work) 16384 long, table-passes .0, table-passes .1, table-passes .2, table-text o text chair ok, le-ltb (length result) (length text) room)
 
+-- where all checks of a call are passed, the table is acceptable, whatever was checked behind it
+pub passed-acceptable : (o : Order) (t : List ℕ) (n : ℕ) (rest : List Check) → Passed (tableChecks o t n ++ rest) → Acceptable o t
+unfolding tableChecks
+passed-acceptable o t n rest (more _ _ (more _ x (more _ y (more _ z _)))) = (x, y, z)
+
 -- a check that succeeds has met none of its conditions
 pub checked-built : (o : Order) (t work : List ℕ) (k h : ℕ) → outcome (checkService o t work) ≡ done k h
     → (text : List ℕ) × (chair : ℕ) × Stored text chair × (t ≡ tableOf o text chair)
-unfolding outcome checkService tableChecks
-checked-built o t work k h e = passes o t .0 (go (decide (tableChecks o t (length work))))
-  where
-    go : ((d : Check) × First d (tableChecks o t (length work))) ⊎ Passed (tableChecks o t (length work)) → Acceptable o t
-    go (inl (d, f)) =
-        let g : refused (d .number) (d .place) ≡ done k h = sym (first-decides d (λ c. refused (c .number) (c .place)) (done (ruleCount t) 0) f) ∙ e in
-        let z : _≡_ {A = ℕ} 0 1 = cc in
-        absurd (omega arith)
-    go (inr (more _ _ (more _ x (more _ y (more _ z none))))) = (x, y, z)
+unfolding checkService
+checked-built o t work k h e = passes o t .0 (passed-acceptable o t (length work) [] (subst Passed (sym (append-nil (tableChecks o t (length work)))) (done-passed (checkService o t work) e)))

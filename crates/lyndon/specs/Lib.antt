@@ -29,3 +29,4 @@ pub mod Accepted
 pub mod Judging
 pub mod Entries
 pub mod Filling
+pub mod Orders

@@ -1,21 +1,21 @@
 -- Bytes, ranks and symbol numbers: each gives the others back. The marked text is a Lyndon word over 257 symbols.
 use mathlib.Core.Path.{_≡_, refl, sym, _∙_, ap, ap₂, subst}
-use mathlib.Core.Bool.{Bool, true}
+use mathlib.Core.Bool.{Bool, true, cond}
 use mathlib.Core.Logic.{inl, ⊎-elim}
 use mathlib.Core.List.{List, [], _∷_, _++_, map, tail-eq-of-cons-eq, List·Memᴰ as In, List·Memᴰ·head as here, List·Memᴰ·tail as there, List·Memᴰ·cases-cons as in-cons, Memᴰ·append-right as in-right}
-use Prim.Native.Nat.{ℕ, zero, suc, _≤_, _<_}
+use Prim.Native.Nat.{ℕ, zero, suc, _+_, _≤_, _<_}
 use native.Mathlib.Omega.{arith}
 use lib.ListN.{length, getD, length-map}
 use lib.Dec.{ltb, leb}
-use borrow.Author.Tests.{ltb-true, leb-true, lt-ltb, le-leb}
+use borrow.Author.Tests.{ltb-true, leb-true, lt-ltb, le-ltb, le-leb}
 use Rattle.definitions.specs.declared.Order.{Order}
-use Rattle.definitions.specs.declared.Order.the-variants.{Unsigned}
+use Rattle.definitions.specs.declared.Order.the-variants.{Unsigned, Signed}
 use Rattle.definitions.specs.Words.{every}
 use Rattle.definitions.specs.Table.{rankOf, byteOf, numberOfRank, rankOfNumber, marked, isDrive}
 use Rattle.lists.specs.Bools.{and-left, and-right, and-intro}
-use Rattle.lists.specs.Numbers.{every-at, every-all}
+use Rattle.lists.specs.Numbers.{split-le, every-at, every-all}
 use Rattle.lists.specs.Lists.{first-of}
-use Rattle.lists.specs.Members.{in-at, at-in, in-map}
+use Rattle.lists.specs.Members.{in-at, at-in, in-map, map-at}
 use Rattle.lyndon.specs.Lexical.{Lt}
 use Rattle.lyndon.specs.Words.{Lyndon}
 
@@ -24,18 +24,27 @@ use Rattle.lyndon.specs.Words.{Lyndon}
 pub rank-range : (o : Order) (b : ℕ) → b < 256 → (0 < rankOf o b) × (rankOf o b < 257)
 unfolding rankOf
 rank-range Unsigned b h = (omega arith, omega arith)
+rank-range Signed b h = (omega arith, omega arith)
 
 pub byte-of-rank : (o : Order) (b : ℕ) → b < 256 → byteOf o (rankOf o b) ≡ b
 unfolding rankOf byteOf
 byte-of-rank Unsigned b h = omega arith
+byte-of-rank Signed b h = omega arith
 
 pub rank-of-byte : (o : Order) (r : ℕ) → 0 < r → r < 257 → rankOf o (byteOf o r) ≡ r
 unfolding rankOf byteOf
 rank-of-byte Unsigned r h k = omega arith
+rank-of-byte Signed r h k = omega arith
 
 pub byte-range : (o : Order) (r : ℕ) → r < 257 → byteOf o r < 256
 unfolding byteOf
 byte-range Unsigned r h = omega arith
+byte-range Signed r h = omega arith
+
+-- signed, a byte below 128 means itself, any other itself less 256: its rank is what it means, plus 129
+pub signed-rank : (b : ℕ) → b < 256 → rankOf Signed b + cond (ltb b 128) 0 256 ≡ b + 129
+unfolding rankOf
+signed-rank b h = split-le 128 b (λ l. rw (le-ltb b 128 l) (omega arith)) (λ l. rw (lt-ltb b 128 l) (omega arith))
 
 -- ---- symbol numbers
 
@@ -103,6 +112,12 @@ unfolding marked
 marked-lyndon o text h =
     lyndon-first 0 (map (rankOf o) text)
     (λ r m. let (b, i, e) = in-map (rankOf o) r text m in rw e (rank-range o b (h b i) .0))
+
+-- behind the mark there are ranks of samples
+pub behind-mark : (o : Order) (text : List ℕ) → Bytes text → (i : ℕ) → 0 < i → i ≤ length text → 0 < getD (marked o text) i 0
+unfolding marked
+behind-mark o text h zero z l = absurd (omega arith)
+behind-mark o text h (suc i) z l = rw (map-at (rankOf o) text i (omega arith)) (rank-range o (getD text i 0) (h (getD text i 0) (at-in text i (omega arith))) .0)
 
 pub marked-symbols : (o : Order) (text : List ℕ) → Bytes text → (r : ℕ) → In r (marked o text) → r < 257
 unfolding marked

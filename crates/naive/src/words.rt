@@ -61,9 +61,18 @@ fn is_smaller<'a>(x: &'a [u8], y: &'a [u8]) -> bool
     i < y.len()
 }
 
-// Whether sample a is smaller than sample b: as unsigned bytes.
+// Whether sample a is smaller than sample b, as signed numbers: 128 and above mean themselves minus 256, so they are smaller than all below 128.
 fn precedes(a: u8, b: u8) -> bool
     ensures { λ r. ⌜ r ≡ ltb (rankOf sampleOrder a) (rankOf sampleOrder b) ⌝ }
 {
+    if a < 128 {
+        if b < 128 {
+            return a < b;
+        }
+        return false;
+    }
+    if b < 128 {
+        return true;
+    }
     a < b
 }

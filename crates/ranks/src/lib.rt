@@ -4,8 +4,10 @@ ghost use mathlib.Core.Path.{_≡_};
 ghost use Prim.Native.Nat.{_<_};
 ghost use Rattle.definitions.specs.Table.{rankOf, byteOf, numberOfRank, rankOfNumber};
 
-// The order that the services speak of.
-pub const SAMPLE_ORDER: Order = Order::Unsigned;
+// The order that the services speak of, and the one that they spoke of before request S-2.
+pub const SAMPLE_ORDER: Order = Order::Signed;
+
+pub const FORMER_ORDER: Order = Order::Unsigned;
 
 // The rank of a byte in an order of samples.
 pub fn rank_of(order: Order, byte: u8) -> u32
@@ -13,6 +15,7 @@ pub fn rank_of(order: Order, byte: u8) -> u32
 {
     match order {
         Order::Unsigned => byte as u32 + 1,
+        Order::Signed => (byte as u32 + 128) % 256 + 1,
     }
 }
 
@@ -23,23 +26,22 @@ pub fn byte_of(order: Order, rank: u32) -> u8
 {
     match order {
         Order::Unsigned => (rank - 1) as u8,
+        Order::Signed => ((rank + 127) % 256) as u8,
     }
 }
 
-// The number of a rank in a symbol rule's first word.
+// The number of a sample's rank in a symbol rule's first word.
 pub fn number_of_rank(order: Order, rank: u32) -> u32
+    requires { ⌜ (0 < rank) × (rank < 257) ⌝ }
     ensures { λ r. ⌜ r ≡ numberOfRank order rank ⌝ }
 {
-    match order {
-        Order::Unsigned => rank,
-    }
+    byte_of(order, rank) as u32 + 1
 }
 
-// The rank of a symbol rule's number.
+// The rank of a sample's number in a symbol rule.
 pub fn rank_of_number(order: Order, number: u32) -> u32
+    requires { ⌜ (0 < number) × (number < 257) ⌝ }
     ensures { λ r. ⌜ r ≡ rankOfNumber order number ⌝ }
 {
-    match order {
-        Order::Unsigned => number,
-    }
+    rank_of(order, (number - 1) as u8)
 }

@@ -19,7 +19,7 @@ pub fn read(table: &[u32], work: &mut [u32], result: &mut [u8]) -> ReadAnswer
     let Answer::Done(rules) = a else {
         return with_chair(a, 0);
     };
-    let r = read_loaded(SAMPLE_ORDER, rules, &work[0..WORK], result);
+    let r = read_loaded(rules, &work[0..WORK], result);
     clear_front(work);
     r
 }
@@ -38,7 +38,7 @@ pub fn extract(
     let Answer::Done(rules) = a else {
         return a;
     };
-    let b = deliver_part(SAMPLE_ORDER, start, count, rules, &work[0..WORK], result);
+    let b = deliver_part(start, count, rules, &work[0..WORK], result);
     clear_front(work);
     b
 }

@@ -20,7 +20,7 @@ pub fn live_cuts(pattern: &[u8], result: &mut [u32]) -> Answer
     let Answer::Done(_) = p else {
         return p;
     };
-    deliver_cuts(SAMPLE_ORDER, pattern, result)
+    deliver_cuts(pattern, result)
 }
 
 // Counts the occurrences of a pattern in the drive of a table. Refuses by 2, 3, 4 to 7; success answers how many there are.
@@ -35,7 +35,7 @@ pub fn count(table: &[u32], pattern: &[u8], work: &mut [u32]) -> Search
     let Answer::Done(rules) = a else {
         return Search { answer: a };
     };
-    let n = count_loaded(SAMPLE_ORDER, pattern, rules, &mut work[0..WORK]);
+    let n = count_loaded(pattern, rules, &mut work[0..WORK]);
     clear_front(work);
     Search {
         answer: Answer::Done(n),
@@ -54,7 +54,7 @@ pub fn locate(table: &[u32], pattern: &[u8], work: &mut [u32], result: &mut [u32
     let Answer::Done(rules) = a else {
         return Search { answer: a };
     };
-    let b = locate_loaded(SAMPLE_ORDER, pattern, rules, &mut work[0..WORK], result);
+    let b = locate_loaded(pattern, rules, &mut work[0..WORK], result);
     clear_front(work);
     Search { answer: b }
 }

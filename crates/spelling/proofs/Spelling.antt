@@ -1,16 +1,10 @@
--- Samples of strings of ranks: those of two strings in a row (`samples-append`), and of ranks without the mark (`samples-ranks`); and such ranks written
--- to a slice one by one (`samples-more`).
-use mathlib.Core.Path.{_≡_, refl, sym, _∙_, ap}
-use mathlib.Core.List.{List, [], _∷_, _++_, map, map-append}
-use Prim.Native.Nat.{ℕ, zero, suc, _+_, _≤_, _<_}
+-- Samples of strings of ranks: those of two strings in a row (`samples-append`), and of ranks without the mark (`samples-ranks`).
+use mathlib.Core.Path.{_≡_, refl, _∙_, ap}
+use mathlib.Core.List.{List, [], _∷_, _++_, map}
+use Prim.Native.Nat.{ℕ, zero, suc, _<_}
 use native.Mathlib.Omega.{arith}
-use native.Mathlib.Numerals.{add-one}
-use lib.ListN.{length, take, getD, set, length-map}
-use lib.Seq.{take-suc, length-take-le}
 use Rattle.definitions.specs.declared.Order.{Order}
-use Rattle.definitions.specs.Words.{placed}
 use Rattle.definitions.specs.Table.{byteOf}
-use Rattle.lists.specs.Lists.{placed-more}
 use Rattle.spelling.specs.Spelling.{samples, Ranks}
 
 -- ---- samples of strings
@@ -32,27 +26,3 @@ samples-ranks o [] h = refl
 samples-ranks o (r ∷ s) h =
     samples-cons o r s (h 0 (omega arith) .0)
     ∙ ap (λ (l : List ℕ). byteOf o r ∷ l) (samples-ranks o s (λ i k. h (suc i) (omega arith)))
-
--- ---- samples of ranks in a slice
-
-pub samples-more : (o : Order) (ranks old w : List ℕ) (i : ℕ) → i < length ranks → length ranks ≤ length old → w ≡ placed (map (byteOf o) (take i ranks)) old
-    → set w i (byteOf o (getD ranks i 0)) ≡ placed (map (byteOf o) (take (i + 1) ranks)) old
-samples-more o ranks old w i h k e =
-    ap (λ (l : List ℕ). set l i x) e
-    ∙ ap (λ (n : ℕ). set (placed front old) n x) (sym size)
-    ∙ sym (placed-more front old x (omega (arith, size)))
-    ∙ ap (λ (l : List ℕ). placed l old) more
-  where
-    x : ℕ
-    x = byteOf o (getD ranks i 0)
-
-    front : List ℕ
-    front = map (byteOf o) (take i ranks)
-
-    size : length (map (byteOf o) (take i ranks)) ≡ i
-    size = length-map (take i ranks) (byteOf o) ∙ length-take-le i ranks (omega arith)
-
-    more : map (byteOf o) (take i ranks) ++ (byteOf o (getD ranks i 0) ∷ []) ≡ map (byteOf o) (take (i + 1) ranks)
-    more =
-        sym (map-append (byteOf o) (take i ranks) (getD ranks i 0 ∷ []))
-        ∙ ap (map (byteOf o)) (sym (take-suc ranks i 0 h) ∙ ap (λ (n : ℕ). take n ranks) (sym (add-one i)))

@@ -2,42 +2,26 @@
 use mathlib.Core.Path.{subst}
 use mathlib.Core.List.{List, [], _∷_}
 use Prim.Native.Nat.{ℕ}
-use native.Mathlib.Omega.{arith}
 use borrow.Author.Needs.{needs}
 use Rattle.definitions.specs.Services.{sampleOrder, writes, Serves, Answers}
 use Rattle.grammar.specs.Built.{rules-most, built-words}
 use Rattle.building.proofs.build_in.Statement.{statement}
 use Rattle.building.proofs.build_in.Tie as tie
 
-mul-end : tie.Need-mul-end
-mul-end c =
-    let t = c .before .before in
+deliver-table-requires : tie.Need-deliver-table-requires
+deliver-table-requires c κs =
+    let t = c .before .before .before .before in
     let a = t .before .before .before .before .before .args in
-    omega (arith, rules-most sampleOrder (a .text .now) (a .chair) (t .table .result) (t .table .ensures .0) (t .table .ensures .2))
-
-add-end : tie.Need-add-end
-add-end c =
-    let t = c .before .before in
-    let a = t .before .before .before .before .before .args in
-    omega (arith, rules-most sampleOrder (a .text .now) (a .chair) (t .table .result) (t .table .ensures .0) (t .table .ensures .2))
-
-part-deliver-end : tie.Need-part-deliver-end
-part-deliver-end c =
-    let t = c .before .before .before in
-    let a = t .before .before .before .before .before .args in
-    omega (arith, rules-most sampleOrder (a .text .now) (a .chair) (t .table .result) (t .table .ensures .0) (t .table .ensures .2), t .table .ensures .1 .long)
+    (rules-most sampleOrder (a .text .now) (a .chair) (t .table .result) (t .table .ensures .0) (t .table .ensures .2), t .table .ensures .1 .long)
 
 returns : tie.Need-returns
 returns c =
     let d = c .before .before in
-    let t = d .before .before .before .before .before .before in
+    let t = d .before .before .before .before .before in
     let a = t .before .before .before .before .before .args in
-    subst (λ (l : List ℕ). Serves (writes [] l 0 (a .result .now)) (Answers (d .deliver .result)) (d .deliver .last .1 .0 ∷ []))
-    (built-words sampleOrder (a .text .now) (t .table .last .1 .1 .1 .0) (a .chair) (t .table .result) (t .table .ensures .0) (t .table .ensures .1) (t .table .ensures .2))
-    (d .deliver .ensures)
+    subst (λ (l : List ℕ). Serves (writes [] l 0 (a .result .now)) (Answers (d .deliver-table .result)) (d .deliver-table .last .1 .1 .0 ∷ []))
+    (built-words sampleOrder (a .text .now) (t .table .last .1 .1 .0) (a .chair) (t .table .result) (t .table .ensures .0) (t .table .ensures .1) (t .table .ensures .2))
+    (d .deliver-table .ensures)
 
 pub build-in-spec : {M : Type 1} → statement M
-build-in-spec =
-    tie.close
-    (tie.spec (λ c κs. search needs) mul-end add-end (λ c. search needs) (λ c. search needs) part-deliver-end (λ c κs. search needs) (λ c. search needs)
-    (λ c. search needs) returns)
+build-in-spec = tie.close (tie.spec (λ c κs. search needs) deliver-table-requires (λ c. search needs) (λ c. search needs) returns)

@@ -62,7 +62,7 @@ returns-3 c h e size =
     let fits = range-fits (h .text) old (a .start) (a .count) (n .text-length .result) (n .text-length .ensures h size) (r .range-fits .result) (r .range-fits .ensures) (told .range .given .1) in
     let same = piece-same (h .text) old (a .start) (a .count) (n .text-length .result) (n .text-length .ensures h size) (r .range-fits .result) (r .range-fits .ensures) (told .range .given .1) in
     part-served (h .text) old (a .start) (a .count) (n .text-length .result) (n .text-length .ensures h size) (r .range-fits .result) (r .range-fits .ensures) (told .range .given .1)
-    (list-written (take (a .count) (drop (a .start) (h .text))) old _ d (f .result-fits .result) (f .result-fits .ensures) (p .write-part .last .1 .1 .1 .1 .0) (p .before .before .enum-told2 .given .1)
+    (list-written (take (a .count) (drop (a .start) (h .text))) old _ d (f .result-fits .result) (f .result-fits .ensures) (p .write-part .last .1 .1 .1 .0) (p .before .before .enum-told2 .given .1)
     (p .write-part .ensures h e fits ∙ ap (λ (l : List ℕ). placed l old) same))
 
 pub deliver-part-spec : {M : Type 1} → statement M

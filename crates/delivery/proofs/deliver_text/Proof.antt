@@ -28,7 +28,7 @@ returns-2 c h e size =
     let f = p .before .before .before .before in
     let n = f .before in
     let a = n .before .before .before .args in
-    list-written (h .text) (a .result .now) (n .text-length .result) (n .text-length .ensures h size) (f .result-fits .result) (f .result-fits .ensures) (p .spell-text .last .1 .1 .1 .0) (p .before .before .enum-told .given .1) (p .spell-text .ensures h e size)
+    list-written (h .text) (a .result .now) (n .text-length .result) (n .text-length .ensures h size) (f .result-fits .result) (f .result-fits .ensures) (p .spell-text .last .1 .1 .0) (p .before .before .enum-told .given .1) (p .spell-text .ensures h e size)
 
 pub deliver-text-spec : {M : Type 1} → statement M
 deliver-text-spec =

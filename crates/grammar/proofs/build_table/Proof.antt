@@ -5,6 +5,7 @@ use Prim.Native.Nat.{ℕ}
 use lib.ListN.{length}
 use borrow.Author.Needs.{needs}
 use Rattle.definitions.specs.Grammar.{Rule}
+use Rattle.definitions.specs.Services.{sampleOrder}
 use Rattle.stack.specs.Areas.{Rules}
 use Rattle.grammar.specs.Built.{Built}
 use Rattle.grammar.proofs.Tabling.{ended-numbers, ended-numbered, rules-size, tabled}
@@ -16,7 +17,7 @@ rules-requires c κs =
     let e = c .before .before .before in
     let s = e .before .before .before in
     let a = s .args in
-    ended-numbers (a .order) (a .n) (a .chair) (a .work .now) (e .ends .last .0) (s .pre) (e .ends .ensures) (e .ends .kept .0)
+    ended-numbers sampleOrder (a .n) (a .chair) (a .work .now) (e .ends .last .0) (s .pre) (e .ends .ensures) (e .ends .kept .0)
 
 returns : tie.Need-returns
 returns c =
@@ -26,12 +27,12 @@ returns c =
     let s = e .before .before .before in
     let a = s .args in
     λ m.
-    let same = ended-numbered (a .order) (a .n) (a .chair) (a .work .now) (e .ends .last .0) m (e .ends .ensures) (e .ends .kept .0) in
+    let same = ended-numbered sampleOrder (a .n) (a .chair) (a .work .now) (e .ends .last .0) m (e .ends .ensures) (e .ends .kept .0) in
     let (k, n, b) = r .rules .ensures in (
-      subst (λ (l : List ℕ). Built (a .order) (m .text) (a .chair) l) (sym (q .put .ensures))
-          (tabled (a .order) (a .n) (a .chair) (a .work .now) (e .ends .last .0) m (e .ends .ensures) (e .ends .kept .0) (r .rules .last .1 .1 .0)
-          (subst (λ (K : List Rule). Rules (a .order) K (r .rules .last .1 .1 .0)) same k) b),
-      n ∙ ap length same ∙ rules-size (a .order) (a .n) (a .chair) (a .work .now) (e .ends .last .0) m (e .ends .ensures) (e .ends .kept .0),
+      subst (λ (l : List ℕ). Built sampleOrder (m .text) (a .chair) l) (sym (q .put .ensures))
+          (tabled sampleOrder (a .n) (a .chair) (a .work .now) (e .ends .last .0) m (e .ends .ensures) (e .ends .kept .0) (r .rules .last .1 .1 .0)
+          (subst (λ (K : List Rule). Rules sampleOrder K (r .rules .last .1 .1 .0)) same k) b),
+      n ∙ ap length same ∙ rules-size sampleOrder (a .n) (a .chair) (a .work .now) (e .ends .last .0) m (e .ends .ensures) (e .ends .kept .0),
     )
 
 pub build-table-spec : {M : Type 1} → statement M

@@ -21,7 +21,7 @@ use Rattle.spelling.proofs.+spell.{statement}
 use Rattle.spelling.proofs.+spell.Tie.{close}
 
 abbrev μ-spell : Measures 2 spell-kinds.ps ℕ
-μ-spell κs a = a .1 .0
+μ-spell κs a = a .0
 
 abbrev spell-at : ℕ → In 2 spell-kinds.ps
 spell-at t = and 2 spell-kinds.ps (is 2 spell-kinds.ps μ-spell t) spell.Pre
@@ -84,7 +84,7 @@ copy-rule-requires t c κs =
     let rule = called .before .before .before in
     let s = rule .before .before .before .before .before in
     let (h, e, m, room) = s .pre .1 in
-    (h, e, halves t rule h m .rest, simp (length-take, length-drop) (omega (arith, left-fits t called, called .spell .kept .1 .1 .1 .0)))
+    (h, e, halves t rule h m .rest, simp (length-take, length-drop) (omega (arith, left-fits t called, called .spell .kept .1 .1 .0)))
 
 both-fit : (t : ℕ) (c : spell-lts.After-copy-rule (calls t) (spell-at t) spell.Post) → let called = c .before .before .before .before in
     let s = called .before .before .before .before .before .before .before .before in
@@ -110,7 +110,7 @@ returns-2 t c h e m =
     record {
       number = omega (arith, halves-size k, left .number, right .number);
       front =
-          placed-both (ruleBytes h u) (ruleBytes h v) old (called .spell .last .1 .1 .1 .0) (copied .copy-rule .last .1 .1 .1 .0) (called .spell .result) (left .number)
+          placed-both (ruleBytes h u) (ruleBytes h v) old (called .spell .last .1 .1 .0) (copied .copy-rule .last .1 .1 .0) (called .spell .result) (left .number)
           (omega (arith, both-fit t copied, left .number, right .number)) (left .front) (right .front)
           ∙ ap (λ (q : List ℕ). placed q old) (sym (k .bytes));
     }
@@ -118,6 +118,6 @@ returns-2 t c h e m =
 pub +spell-spec : {M : Type 1} → statement M
 +spell-spec = close μ-spell λ t. spell-lts.spec (calls t) (spell-at t) spell.Post
     (rule-in-requires t) (λ c. search needs) (λ c. search needs) (returns t)
-    (spell-requires t) (λ c. omega (arith, left-fits t (c .before .before), c .before .before .spell .kept .1 .1 .1 .0))
-    (λ c. omega (arith, left-fits t (c .before .before), c .before .before .spell .kept .1 .1 .1 .0)) (λ c. omega arith) (copy-rule-requires t)
+    (spell-requires t) (λ c. omega (arith, left-fits t (c .before .before), c .before .before .spell .kept .1 .1 .0))
+    (λ c. omega (arith, left-fits t (c .before .before), c .before .before .spell .kept .1 .1 .0)) (λ c. omega arith) (copy-rule-requires t)
     (λ c. omega (arith, both-fit t (c .before .before))) (λ c. search needs) (returns-2 t)

@@ -7,17 +7,17 @@ use lib.ListN.{length, take, set, length-set}
 use lib.Seq.{take-length}
 use Rattle.definitions.specs.Words.{placed}
 use Rattle.definitions.specs.Table.{byteOf}
-use Rattle.lists.specs.Lists.{placed-none}
-use Rattle.spelling.proofs.Spelling.{samples-more}
+use Rattle.definitions.specs.Services.{sampleOrder}
+use Rattle.lists.specs.Lists.{placed-none, mapped-more}
 use Rattle.spelling.proofs.write_samples.Statement.{statement}
 use Rattle.spelling.proofs.write_samples.Tie as tie
 
 abbrev Inv-loop : tie.InvT-loop
-Inv-loop order ranks result₀ i₀ result i =
-    (i ≤ length ranks) × (length result ≡ length result₀) × (result ≡ placed (map (byteOf order) (take i ranks)) result₀)
+Inv-loop ranks result₀ i₀ result i =
+    (i ≤ length ranks) × (length result ≡ length result₀) × (result ≡ placed (map (byteOf sampleOrder) (take i ranks)) result₀)
 
 abbrev μ-loop : tie.MeasureT-loop
-μ-loop order ranks result₀ i₀ result i = length ranks - i
+μ-loop ranks result₀ i₀ result i = length ranks - i
 
 loop-holds : tie.Need-loop-holds Inv-loop μ-loop
 loop-holds c = (omega arith, refl, sym (placed-none (c .before .before .args .result .now)))
@@ -33,7 +33,7 @@ loop-again c =
       omega arith,
       length-set (at .loop .result) (at .loop .i) (c .byte-of .result) ∙ at .loop .inv .1,
       ap (λ (b : ℕ). set (at .loop .result) (at .loop .i) b) x
-          ∙ samples-more (a .order) (a .ranks .now) (a .result .now) (at .loop .result) (at .loop .i) (omega arith) (omega arith) (at .loop .inv .2),
+          ∙ mapped-more (byteOf sampleOrder) (a .ranks .now) (a .result .now) (at .loop .result) (at .loop .i) (omega arith) (omega arith) (at .loop .inv .2),
     )
 
 returns : tie.Need-returns Inv-loop μ-loop
@@ -42,8 +42,8 @@ returns c =
     let a = at .before .before .before .args in
     let e : at .loop .i ≡ length (a .ranks .now) = omega arith in
     at .loop .inv .2
-    ∙ ap (λ (n : ℕ). placed (map (byteOf (a .order)) (take n (a .ranks .now))) (a .result .now)) e
-    ∙ ap (λ (l : List ℕ). placed (map (byteOf (a .order)) l) (a .result .now)) (take-length (a .ranks .now))
+    ∙ ap (λ (n : ℕ). placed (map (byteOf sampleOrder) (take n (a .ranks .now))) (a .result .now)) e
+    ∙ ap (λ (l : List ℕ). placed (map (byteOf sampleOrder) l) (a .result .now)) (take-length (a .ranks .now))
 
 pub write-samples-spec : {M : Type 1} → statement M
 write-samples-spec =
