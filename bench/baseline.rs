@@ -11,6 +11,31 @@ pub const TABLE: usize = 11520;
 const TABLE_END: usize = 16128;
 pub const WORK: usize = 16384;
 
+/// The order in which samples are compared: as unsigned bytes, or as signed ones, where a byte of 128 or more means itself minus 256.
+#[derive(Clone, Copy)]
+pub enum Order {
+    Unsigned,
+    Signed,
+}
+
+/// The rank of a byte in an order of samples.
+pub fn rank_in(order: Order, byte: u8) -> u32 {
+    match order {
+        Order::Unsigned => byte as u32 + 1,
+        Order::Signed => rank_of(byte),
+    }
+}
+
+/// The rank of a byte in the signed order.
+pub fn rank_of(byte: u8) -> u32 {
+    (byte as u32 + 128) % 256 + 1
+}
+
+/// The byte of a sample's rank in the signed order.
+pub fn byte_of(rank: u32) -> u8 {
+    ((rank + 127) % 256) as u8
+}
+
 /// Number, place, count and chair, as the library answers them.
 pub type Answer = (u32, u64, u64, u32);
 
@@ -128,26 +153,27 @@ pub fn ends(work: &mut [u32], n: usize) {
 }
 
 pub fn bucket(x: u32, y: u32) -> usize {
-    let h = x as u64 * 1640531527 + y as u64 * 1013904243;
+    let h = x as u64 * 1640531527 + y as u64 * 374761392;
     (h / 2097152 % 1024) as usize
 }
 
-pub fn find(rules: &[u32], links: &[u32], n: usize, x: u32, y: u32) -> usize {
+/// One more than the newest rule with two words, 0 if there is none.
+pub fn find(rules: &[u32], links: &[u32], x: u32, y: u32) -> usize {
     let mut r = at(links, bucket(x, y)) as usize;
     while 0 < r {
         let k = 2 * r - 2;
         if at(rules, k) == x && at(rules, k + 1) == y {
-            return r - 1;
+            return r;
         }
         r = at(links, 1023 + r) as usize;
     }
-    n
+    0
 }
 
 pub fn push(work: &mut [u32], n: usize, d: usize, x: u32, y: u32) -> usize {
-    let r = find(part(work, TABLE, TABLE_END), part(work, LINKS, TABLE), n, x, y);
-    if r < n {
-        put(work, STACK + d, r as u32);
+    let r = find(part(work, TABLE, TABLE_END), part(work, LINKS, TABLE), x, y);
+    if 0 < r {
+        put(work, STACK + d, r as u32 - 1);
         return n;
     }
     put(work, TABLE + 2 * n, x);
@@ -160,10 +186,12 @@ pub fn push(work: &mut [u32], n: usize, d: usize, x: u32, y: u32) -> usize {
     n + 1
 }
 
+/// The rules of the ranks at the front: the mark's first, then sample by sample its own and those of the joins that close behind it. Answers how many.
 pub fn number(work: &mut [u32], len: usize) -> usize {
-    let (mut n, mut d, mut i) = (0, 0, 0);
+    let mut n = push(work, 0, 0, 0, 3 << 30);
+    let (mut d, mut i) = (1, 1);
     while i < len {
-        let x = at(work, i);
+        let x = byte_of(at(work, i)) as u32 + 1;
         let mut left = at(work, CLOSINGS + i);
         n = push(work, n, d, x, 3 << 30);
         d += 1;
@@ -204,21 +232,23 @@ pub fn build(text: &[u8], chair: u16, work: &mut [u32], result: &mut [u32]) -> A
     }
     put(work, 0, 0);
     for (i, &b) in text.iter().enumerate() {
-        put(work, 1 + i, b as u32 + 1);
+        put(work, 1 + i, rank_of(b));
     }
     let m = build_table(work, text.len() + 1, chair);
-    let short = result.len() < m;
-    if !short {
-        let mut i = 0;
-        while i < m {
-            put(result, i, at(work, TABLE + i));
-            i += 1;
-        }
-    }
+    let answer = deliver_table(work, m, result);
     clear(work, 0, WORK);
-    if short {
-        refused(9, m)
-    } else {
-        done(m, 0)
+    answer
+}
+
+/// The m words of the table area at the front of the result slice, if it is long enough.
+pub fn deliver_table(work: &[u32], m: usize, result: &mut [u32]) -> Answer {
+    if result.len() < m {
+        return refused(9, m);
     }
+    let mut i = 0;
+    while i < m {
+        put(result, i, at(work, TABLE + i));
+        i += 1;
+    }
+    done(m, 0)
 }

@@ -1,10 +1,12 @@
 //! One call of a service under callgrind: `bench SIDE SERVICE FAMILY SAMPLES [PATTERN]`. SIDE is `library` or `rust`; SERVICE is `build`,
 //! `check`, `read`, `copied` (reading, beside a Rust that copies the text), `extract` (the whole text), `count`, `locate`, `cuts` (the live cuts of
-//! the pattern), `lyndon_length` (at the first position), `lyndon_array`, or `doubling`: the check of a table of SAMPLES rules that double. FAMILY 100 + m is a block of m random bytes, repeated. The pattern is the PATTERN samples in the middle of the text. It
-//! prints the answer and a checksum of each lent slice afterwards, which `bench/run` compares between the sides. The lent slices hold other
-//! values before the call.
+//! the pattern), `lyndon_length` (at the first position), `lyndon_array`, `to_signed` (of the former table), or `doubling`: the check of a table of SAMPLES
+//! rules that double. FAMILY 100 + m is a block of m random bytes, repeated. The pattern is the PATTERN samples in the middle of the text. It prints the answer
+//! and a checksum of each lent slice afterwards, which `bench/run` compares between the sides. The lent slices hold other values before the call.
 
 mod baseline;
+#[path = "../tests/former.rs"]
+mod former;
 #[path = "../tests/library.rs"]
 mod library;
 mod search;
@@ -12,6 +14,7 @@ mod tables;
 mod texts;
 
 use baseline::Answer;
+use former::former_table;
 use library::*;
 
 const CHAIR: u16 = 40;
@@ -55,6 +58,7 @@ fn measured_library(given: &Given, lent: &mut Lent) -> Answer {
             "cuts" => replied(sirbolta_live_cuts(pattern, p, words, k)),
             "lyndon_length" => replied(sirbolta_lyndon_length(table, m, 0, work, w)),
             "lyndon_array" => replied(sirbolta_lyndon_array(table, m, work, w, words, k)),
+            "to_signed" => replied(sirbolta_to_signed(table, m, work, w, words, k)),
             service => panic!("no service {service}"),
         }
     }
@@ -84,6 +88,7 @@ fn measured_rust(given: &Given, lent: &mut Lent) -> Answer {
         "cuts" => search::live_cuts(pattern, words),
         "lyndon_length" => tables::lyndon_length(table, 0, work),
         "lyndon_array" => tables::lyndon_array(table, work, words),
+        "to_signed" => tables::to_signed(table, work, words),
         service => panic!("no service {service}"),
     }
 }
@@ -93,7 +98,11 @@ fn main() {
     let number = |i: usize| args.get(i).map_or(0, |s| s.parse::<usize>().unwrap());
     let (service, family, size) = (args[2].clone(), number(3), number(4));
     let text = texts::text(family, size.min(2047));
-    let table = if service == "doubling" { doubling(size as u32) } else { table_of(&text) };
+    let table = match service.as_str() {
+        "doubling" => doubling(size as u32),
+        "to_signed" => former_table(&text, table_of),
+        _ => table_of(&text),
+    };
     let pattern = texts::middle(&text, number(5));
     let given = Given { service, text, table, pattern };
     let mut lent = lent();

@@ -8,10 +8,6 @@ const FOUND: usize = 6656;
 const FLAGS: usize = 8960;
 const FLAGS_END: usize = 11008;
 
-fn rank_of(byte: u8) -> u32 {
-    byte as u32 + 1
-}
-
 /// The run that starts at a place, as far as it goes: the place a copy before its end, and its end.
 fn extend(pattern: &[u8], start: usize) -> (usize, usize) {
     let (mut back, mut end) = (start, start + 1);
@@ -106,11 +102,14 @@ fn halves(work: &[u32], r: usize) -> Option<(usize, usize)> {
     Some((value(x) as usize, value(y) as usize))
 }
 
-/// Whether ranks are those of the pattern.
-fn matches(pattern: &[u8], ranks: &[u32]) -> bool {
-    let mut i = 0;
+/// Whether ranks are those of the pattern: the first by its rank, each other by its byte.
+fn matches(first: u32, pattern: &[u8], ranks: &[u32]) -> bool {
+    if first != at(ranks, 0) {
+        return false;
+    }
+    let mut i = 1;
     while i < pattern.len() {
-        if rank_of(at(pattern, i)) != at(ranks, i) {
+        if byte_of(at(ranks, i)) != at(pattern, i) {
             return false;
         }
         i += 1;
@@ -119,51 +118,49 @@ fn matches(pattern: &[u8], ranks: &[u32]) -> bool {
 }
 
 /// Whether cut c is live and the pattern stands at a place.
-fn is_cut(pattern: &[u8], work: &[u32], c: usize, place: usize) -> bool {
+fn is_cut(first: u32, pattern: &[u8], work: &[u32], c: usize, place: usize) -> bool {
     if at(work, FLAGS + c) == 0 {
         return false;
     }
-    matches(pattern, part(work, place, place + pattern.len()))
+    matches(first, pattern, part(work, place, place + pattern.len()))
 }
 
-/// The live cut at which the pattern straddles the join of two strings, the first of which stands at a place; 0 if it does not.
-fn cut_at_join(pattern: &[u8], work: &[u32], place: usize, left: usize, right: usize) -> usize {
+/// 4096 and the live cut at which the pattern straddles the join of two strings, the first of which stands at a place; 0 if it does not.
+fn cut_at_join(first: u32, pattern: &[u8], work: &[u32], place: usize, left: usize, right: usize) -> u32 {
     let m = pattern.len();
     let join = place + left;
     let end = if m <= left { m } else { left + 1 };
     let mut c = if right < m { m - right } else { 1 };
     while c < end {
-        if is_cut(pattern, work, c, join - c) {
-            return c;
+        if is_cut(first, pattern, work, c, join - c) {
+            return 4096 + c as u32;
         }
         c += 1;
     }
     0
 }
 
-/// The occurrences in both halves and at the join, times 4096, and the cut there.
-fn found(both: usize, cut: usize) -> u32 {
-    if cut == 0 {
-        return (both * 4096) as u32;
-    }
-    ((both + 1) * 4096 + cut) as u32
+/// The occurrences in both halves times 4096, and what is found at the join.
+fn found(both: usize, joined: u32) -> u32 {
+    both as u32 * 4096 + joined
 }
 
 /// The occurrences in rule r times 4096 and the cut at its join.
-fn found_in(pattern: &[u8], work: &[u32], r: usize) -> u32 {
+fn found_in(first: u32, pattern: &[u8], work: &[u32], r: usize) -> u32 {
     let Some((u, v)) = halves(work, r) else {
         let found = pattern.len() == 1 && at(work, word(work, PLACES, r)) == rank_of(at(pattern, 0));
         return if found { 4096 } else { 0 };
     };
     let (left, right) = (word(work, LENGTHS, u), word(work, LENGTHS, v));
-    let cut = cut_at_join(pattern, work, word(work, PLACES, r), left, right);
+    let cut = cut_at_join(first, pattern, work, word(work, PLACES, r), left, right);
     found(word(work, FOUND, u) / 4096 + word(work, FOUND, v) / 4096, cut)
 }
 
 fn count_rules(pattern: &[u8], work: &mut [u32], rules: usize) {
+    let first = rank_of(at(pattern, 0));
     let mut r = 0;
     while r < rules {
-        let x = found_in(pattern, work, r);
+        let x = found_in(first, pattern, work, r);
         put(work, FOUND + r, x);
         r += 1;
     }
@@ -182,7 +179,7 @@ pub fn count(table: &[u32], pattern: &[u8], work: &mut [u32]) -> Answer {
     if let Some(a) = pattern_refused(pattern) {
         return a;
     }
-    with_loaded(table, work, |work| done(count_loaded(pattern, work, table.len() / 2), 0))
+    with_loaded(Order::Signed, table, work, |work| done(count_loaded(pattern, work, table.len() / 2), 0))
 }
 
 /// Writes the occurrence at a place of the marked text as entry n. Answers where the next goes.
@@ -232,7 +229,7 @@ pub fn locate(table: &[u32], pattern: &[u8], work: &mut [u32], result: &mut [u32
     if let Some(a) = pattern_refused(pattern) {
         return a;
     }
-    with_loaded(table, work, |work| {
+    with_loaded(Order::Signed, table, work, |work| {
         let rules = table.len() / 2;
         let n = count_loaded(pattern, work, rules);
         if result.len() < n {

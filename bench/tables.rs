@@ -1,4 +1,4 @@
-//! The library's algorithms on tables in Rust: checking, reading back, reading a part, the longest Lyndon words.
+//! The library's algorithms on tables in Rust: checking, reading back, reading a part, the longest Lyndon words, conversion to the signed order.
 
 use crate::baseline::*;
 
@@ -78,7 +78,7 @@ fn is_new(table: &[u32], work: &[u32], r: usize, x: u32, y: u32) -> bool {
     if x as usize + 1 == (1 << 30) + r || y as usize + 1 == (2 << 30) + r {
         return true;
     }
-    find(table, work, r, x, y) == r
+    find(table, work, x, y) == 0
 }
 
 /// The length of each rule's string; none is above 2,048.
@@ -139,12 +139,14 @@ fn enter(work: &mut [u32], q: usize, e: usize, place: u32) -> usize {
     q + 1
 }
 
-/// Each rule written at its place: whether the halves of each are in order.
-fn fill_all(table: &[u32], work: &mut [u32]) -> bool {
+/// Each rule written at its place, the mark's first: whether the halves of each are in order.
+fn fill_all(order: Order, table: &[u32], work: &mut [u32]) -> bool {
+    let start = at(work, PLACES) as usize;
+    put(work, start, 0);
     let rules = table.len() / 2;
-    let mut r = 0;
+    let mut r = 1;
     while r < rules {
-        if !fill_rule(table, work, r) {
+        if !fill_rule(order, table, work, r) {
             return false;
         }
         r += 1;
@@ -152,11 +154,11 @@ fn fill_all(table: &[u32], work: &mut [u32]) -> bool {
     true
 }
 
-fn fill_rule(table: &[u32], work: &mut [u32], r: usize) -> bool {
+fn fill_rule(order: Order, table: &[u32], work: &mut [u32], r: usize) -> bool {
     let (x, y) = (at(table, 2 * r), at(table, 2 * r + 1));
     let start = at(work, PLACES + r) as usize;
     if x < 1 << 30 {
-        put(work, start, x);
+        put(work, start, rank_of_number(order, x));
         return true;
     }
     let (u, v) = (value(x) as usize, value(y) as usize);
@@ -164,6 +166,11 @@ fn fill_rule(table: &[u32], work: &mut [u32], r: usize) -> bool {
     write_rule(work, u, start);
     write_rule(work, v, behind);
     in_order(table, work, u, v, start, behind)
+}
+
+/// The rank of a sample's number in a symbol rule.
+fn rank_of_number(order: Order, number: u32) -> u32 {
+    rank_in(order, (number - 1) as u8)
 }
 
 fn write_rule(work: &mut [u32], q: usize, to: usize) {
@@ -210,8 +217,8 @@ fn is_smaller(work: &[u32], i: usize, j: usize, n: usize) -> bool {
     rest_before(part(work, 0, LENGTHS), i, j, n)
 }
 
-fn load(table: &[u32], work: &mut [u32]) -> bool {
-    if !is_distinct(table, work) || !measure(table, work) || !enter_all(table, work) || !fill_all(table, work) {
+fn load(order: Order, table: &[u32], work: &mut [u32]) -> bool {
+    if !is_distinct(table, work) || !measure(table, work) || !enter_all(table, work) || !fill_all(order, table, work) {
         return false;
     }
     if !is_marked(work, text_length(table, work) + 1) {
@@ -221,8 +228,8 @@ fn load(table: &[u32], work: &mut [u32]) -> bool {
     true
 }
 
-/// Checks and loads a table; what `deliver` answers then.
-pub fn with_loaded(table: &[u32], work: &mut [u32], deliver: impl FnOnce(&mut [u32]) -> Answer) -> Answer {
+/// Checks a table by an order of samples and loads it; what `deliver` answers then.
+pub fn with_loaded(order: Order, table: &[u32], work: &mut [u32], deliver: impl FnOnce(&mut [u32]) -> Answer) -> Answer {
     if work.len() < WORK {
         return refused(4, 0);
     }
@@ -234,7 +241,7 @@ pub fn with_loaded(table: &[u32], work: &mut [u32], deliver: impl FnOnce(&mut [u
     if i < m {
         return refused(6, i);
     }
-    let answer = if load(table, work) { deliver(work) } else { refused(7, 0) };
+    let answer = if load(order, table, work) { deliver(work) } else { refused(7, 0) };
     clear(work, 0, WORK);
     answer
 }
@@ -242,7 +249,7 @@ pub fn with_loaded(table: &[u32], work: &mut [u32], deliver: impl FnOnce(&mut [u
 /// Whether a table is one; its number of rules.
 #[inline(never)]
 pub fn check(table: &[u32], work: &mut [u32]) -> Answer {
-    with_loaded(table, work, |_| done(table.len() / 2, 0))
+    with_loaded(Order::Signed, table, work, |_| done(table.len() / 2, 0))
 }
 
 /// The number of samples of the text that is loaded.
@@ -269,7 +276,7 @@ fn copy_rule(work: &[u32], r: usize, result: &mut [u8]) -> usize {
 
 /// The text and the chair of a table; `write` writes the text that is loaded.
 fn text_of(table: &[u32], work: &mut [u32], result: &mut [u8], write: impl FnOnce(&[u32], usize, &mut [u8])) -> Answer {
-    with_loaded(table, work, |work| {
+    with_loaded(Order::Signed, table, work, |work| {
         let n = text_length(table, work);
         if result.len() < n {
             return refused(9, n);
@@ -296,7 +303,7 @@ pub fn copied(table: &[u32], work: &mut [u32], result: &mut [u8]) -> Answer {
 /// The part of a table's text that begins at `start` and has `count` samples.
 #[inline(never)]
 pub fn extract(table: &[u32], start: usize, count: usize, work: &mut [u32], result: &mut [u8]) -> Answer {
-    with_loaded(table, work, |work| {
+    with_loaded(Order::Signed, table, work, |work| {
         let n = text_length(table, work);
         if n < start || n - start < count {
             return refused(8, 0);
@@ -313,7 +320,7 @@ pub fn extract(table: &[u32], start: usize, count: usize, work: &mut [u32], resu
 fn copy(ranks: &[u32], result: &mut [u8]) {
     let mut i = 0;
     while i < ranks.len() {
-        put(result, i, (at(ranks, i) - 1) as u8);
+        put(result, i, byte_of(at(ranks, i)));
         i += 1;
     }
 }
@@ -321,7 +328,7 @@ fn copy(ranks: &[u32], result: &mut [u8]) {
 /// The length of the longest Lyndon word that begins at a position of a table's text.
 #[inline(never)]
 pub fn lyndon_length(table: &[u32], position: usize, work: &mut [u32]) -> Answer {
-    with_loaded(table, work, |work| {
+    with_loaded(Order::Signed, table, work, |work| {
         let n = text_length(table, work);
         if n <= position {
             return refused(8, 0);
@@ -334,7 +341,7 @@ pub fn lyndon_length(table: &[u32], position: usize, work: &mut [u32]) -> Answer
 /// These lengths at all positions.
 #[inline(never)]
 pub fn lyndon_array(table: &[u32], work: &mut [u32], result: &mut [u32]) -> Answer {
-    with_loaded(table, work, |work| {
+    with_loaded(Order::Signed, table, work, |work| {
         let n = text_length(table, work);
         if result.len() < n {
             return refused(9, n);
@@ -346,5 +353,21 @@ pub fn lyndon_array(table: &[u32], work: &mut [u32], result: &mut [u32]) -> Answ
             i += 1;
         }
         done(n, 0)
+    })
+}
+
+/// The table in the signed order of the text and chair number of a table in the unsigned one.
+#[inline(never)]
+pub fn to_signed(table: &[u32], work: &mut [u32], result: &mut [u32]) -> Answer {
+    with_loaded(Order::Unsigned, table, work, |work| {
+        let n = text_length(table, work) + 1;
+        let mut i = 1;
+        while i < n {
+            let rank = at(work, i);
+            put(work, i, rank_of((rank - 1) as u8));
+            i += 1;
+        }
+        let m = build_table(work, n, chair_of(table));
+        deliver_table(work, m, result)
     })
 }

@@ -10,6 +10,11 @@ impl Numbers {
         self.0 ^= self.0 << 17;
         (self.0 >> 20) % below
     }
+
+    /// A random byte, from 128 (-128) to 127 as `next` goes up: samples compare as the numbers did before they were signed.
+    fn sample(&mut self) -> u8 {
+        self.next(256) as u8 ^ 128
+    }
 }
 
 pub const FAMILIES: [&str; 10] = [
@@ -39,7 +44,7 @@ fn run(k: usize) -> Vec<u8> {
     s
 }
 
-/// Rests at the centre of up to 60 samples, between ramps of up to 20 steps out and back.
+/// Rests of up to 60 samples, between ramps of up to 20 steps out and back.
 fn ramps(n: usize, numbers: &mut Numbers) -> Vec<u8> {
     let mut s = Vec::new();
     while s.len() < n {
@@ -90,7 +95,7 @@ fn headings(n: usize, numbers: &mut Numbers) -> Vec<u8> {
 pub fn text(family: usize, n: usize) -> Vec<u8> {
     let mut numbers = Numbers(88172645463325252);
     match family {
-        0 => (0..n).map(|_| numbers.next(256) as u8).collect(),
+        0 => (0..n).map(|_| numbers.sample()).collect(),
         1 => (0..n).map(|_| numbers.next(2) as u8).collect(),
         2 => ramps(n, &mut numbers),
         3 => vec![b'a'; n],
@@ -100,7 +105,7 @@ pub fn text(family: usize, n: usize) -> Vec<u8> {
         7 => fibonacci(n),
         8 => falling(n),
         9 => headings(n, &mut numbers),
-        _ => repeated(&(BLOCKS..family).map(|_| numbers.next(256) as u8).collect::<Vec<u8>>(), n),
+        _ => repeated(&(BLOCKS..family).map(|_| numbers.sample()).collect::<Vec<u8>>(), n),
     }
 }
 

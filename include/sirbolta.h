@@ -2,8 +2,13 @@
  * Sirbolta: a drive stored as its Lyndon grammar, checked, read back and searched.
  *
  * A text is a drive: 0 to 2,047 samples of one byte. A pattern is 1 to 2,047 samples. A table is what sirbolta_build writes: words of 32 bits,
- * at most 4,608. Positions count from 0. Samples compare as unsigned numbers, strings at the first different sample or as a proper
- * prefix, which is the smaller; a Lyndon word is not empty, and smaller than each of its proper suffixes but the empty one.
+ * at most 4,608. Positions count from 0. Samples are compared as signed numbers, a byte of 128 or more meaning itself minus 256; strings
+ * at the first different sample or as a proper prefix, which is the smaller; a Lyndon word is not empty, and smaller than each of its
+ * proper suffixes but the empty one.
+ *
+ * A former table is one that was built while samples were compared as unsigned numbers. sirbolta_to_signed takes former tables and no
+ * others; every other function refuses them by 7, unless all samples of the text are below 128 or none is: the two orders then give the
+ * same table.
  *
  * A slice is a pointer and a length in entries; a null pointer with length 0 is fine. The caller sees to it that
  *   - each pointer is valid for its length, and a pointer to words is aligned to 4 bytes;
@@ -20,7 +25,8 @@
  *   4  work too short      the work slice has fewer than 16,384 words                  all but live_cuts
  *   5  table length        the table has no word, an odd number, or more than 4,608    all but build and live_cuts
  *   6  bad word            a word of the table is bad                                  all but build and live_cuts
- *   7  not a table         no bad word, yet the table of no text and chair number      all but build and live_cuts
+ *   7  not a table         no bad word, yet the table of no text and chair number      all but build, live_cuts and to_signed
+ *                          no bad word, yet the former table of none                   to_signed
  *   8  range past the end  start + length is above the text's length (it never wraps)  extract
  *                          the position is not below the text's length                 lyndon_length
  *   9  result too short    the result slice has fewer entries than the result          all but check, count and lyndon_length
@@ -43,7 +49,7 @@ extern "C" {
 #endif
 
 /*
- * The number of this interface. It goes up whenever a function's parameters or a reply change; the soname of the shared library ends with it. A program
+ * The number of this interface. It goes up whenever a function's parameters or the fields of a reply change; the soname of the shared library ends with it. A program
  * that may meet another library than this header's compares the number with what sirbolta_interface answers, before any other call.
  */
 #define SIRBOLTA_INTERFACE 1
@@ -80,6 +86,9 @@ sirbolta_reply sirbolta_lyndon_length(const uint32_t *table, size_t table_len, s
 
 /* Writes the length of the longest Lyndon word that begins at each position of the text. Count: the lengths written. */
 sirbolta_reply sirbolta_lyndon_array(const uint32_t *table, size_t table_len, uint32_t *work, size_t work_len, uint32_t *result, size_t result_len);
+
+/* Writes the table of the text and the chair number of a former table. Count: the words written, two a rule. */
+sirbolta_reply sirbolta_to_signed(const uint32_t *table, size_t table_len, uint32_t *work, size_t work_len, uint32_t *result, size_t result_len);
 
 #ifdef __cplusplus
 }

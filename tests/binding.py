@@ -30,6 +30,9 @@ import sirbolta  # noqa: E402
 
 AGREED = {}
 
+# each service that a table in the signed order is handed to, with arguments for the drive `abab`
+SERVICES = [("check",), ("read",), ("extract", 1, 2), ("count", b"ab"), ("locate", b"ab"), ("lyndon_length", 1), ("lyndon_array",)]
+
 
 class Told(bytes):
     """Bytes that say of themselves what is not so."""
@@ -39,6 +42,13 @@ class Told(bytes):
 
     def __bytes__(self):
         return b"told"
+
+
+def former(text, chair) -> list[int]:
+    """The words of the table in the former order, in which samples were compared as unsigned numbers: those of the table of the samples with their highest bit
+    changed, whose symbols are changed back."""
+    changed = sirbolta.build(bytes(sample ^ 128 for sample in text), chair).words
+    return [(word - 1 ^ 128) + 1 if 0 < word <= 256 else word for word in changed]
 
 
 def unaligned(words, offset=1) -> memoryview:
@@ -121,6 +131,9 @@ def asked(case: dict, kind):
         case "longest_all":
             lengths = sirbolta.lyndon_array(table)
             return len(lengths), lengths
+        case "convert_order":
+            words = sirbolta.to_signed(table).words.tolist()
+            return len(words), words
     raise AssertionError(f"an unknown call: {case['call']}")
 
 
@@ -134,7 +147,7 @@ class Vectors(unittest.TestCase):
                 with self.subTest(case, kind=name):
                     self.agrees(case, want, KINDS[name])
             AGREED[case["call"]] = AGREED.get(case["call"], 0) + 1
-        self.assertEqual(sorted(AGREED), ["build", "check", "count", "cuts", "list", "longest", "longest_all", "part", "read"])
+        self.assertEqual(sorted(AGREED), ["build", "check", "convert_order", "count", "cuts", "list", "longest", "longest_all", "part", "read"])
 
     def agrees(self, case, want, kind):
         if want["no"] == "0":
@@ -160,8 +173,9 @@ class Refusals(unittest.TestCase):
     CONCERNED = {
         "build": [1, 4, 9], "check": [4, 5, 6, 7], "read": [4, 5, 6, 7, 9], "extract": [4, 5, 6, 7, 8, 9], "count": [2, 3, 4, 5, 6, 7],
         "locate": [2, 3, 4, 5, 6, 7, 9], "live_cuts": [2, 3, 9], "lyndon_length": [4, 5, 6, 7, 8], "lyndon_array": [4, 5, 6, 7, 9],
+        "to_signed": [4, 5, 6, 7, 9],
     }
-    NEEDED = {"build": 8, "read": 4, "extract": 3, "locate": 3, "live_cuts": 1, "lyndon_array": 4}
+    NEEDED = {"build": 8, "read": 4, "extract": 3, "locate": 3, "live_cuts": 1, "lyndon_array": 4, "to_signed": 12}
     CHANGED = {
         1: {"samples": bytearray(2048)},
         2: {"samples": bytearray()},
@@ -179,12 +193,13 @@ class Refusals(unittest.TestCase):
         self.answers = {
             "build": sirbolta.Table([0, 0xC0000028, 98, 0xC0000000, 0x40000000, 0x80000001, 0x40000002, 0x80000001]), "check": 6, "read": (b"aaaa", 40),
             "extract": b"aaa", "count": 3, "locate": [0, 1, 2], "live_cuts": [1], "lyndon_length": 1, "lyndon_array": [1, 1, 1, 1],
+            "to_signed": self.usual["table"],
         }
 
     def ask(self, service, given):
         arguments = {"build": ["samples", "chair"], "extract": ["table", "start", "length"], "live_cuts": ["samples"]}
         arguments |= {"check": ["table"], "read": ["table"], "count": ["table", "samples"], "locate": ["table", "samples"]}
-        arguments |= {"lyndon_length": ["table", "position"], "lyndon_array": ["table"]}
+        arguments |= {"lyndon_length": ["table", "position"], "lyndon_array": ["table"], "to_signed": ["table"]}
         return getattr(sirbolta, service)(*[given[name] for name in arguments[service]])
 
     def test_every_refusal_of_every_service(self):
@@ -271,6 +286,7 @@ class Module(unittest.TestCase):
             self.wrong_type(sentence, sirbolta.locate, table, b"ab")
             self.wrong_type(sentence, sirbolta.lyndon_length, table, 0)
             self.wrong_type(sentence, sirbolta.lyndon_array, table)
+            self.wrong_type(sentence, sirbolta.to_signed, table)
         for table in [array("i"), array("H"), array("Q"), array("f"), (ctypes.c_uint32.__ctype_be__ * 2)()]:
             sentence = f"a table's buffer has single bytes or unsigned words of 32 bits, not the format {memoryview(table).format}"
             self.wrong_type(sentence, sirbolta.Table, table)
@@ -305,13 +321,33 @@ class Module(unittest.TestCase):
         self.assertEqual((sirbolta.count(self.table, Told(b"ab")), sirbolta.live_cuts(Told(b"aaba"))), (2, [1, 3]))
 
     def test_largest(self):
-        text = bytes(i // 8 for i in range(2047))
+        text = bytes(i // 8 ^ 128 for i in range(2047))  # -128 to 127
         table = sirbolta.build(text, 65_535)
         self.assertEqual((len(table.words), sirbolta.check(table)), (4608, 2304))
         self.assertEqual(sirbolta.read(table), (text, 65_535))
         self.assertEqual((sirbolta.lyndon_length(table, 0), sirbolta.lyndon_array(table)), (2047, [*range(2047, 7, -1)] + [1] * 7))
         self.assertEqual(sirbolta.locate(sirbolta.build(bytes(2047), 0), b"\0"), list(range(2047)))
         self.assertEqual(sirbolta.live_cuts(bytes(2047)), list(range(1, 2047)))
+
+    def test_samples_are_compared_as_signed_numbers(self):
+        edges = bytes([128, 255, 0, 127])
+        self.assertEqual(sirbolta.lyndon_array(sirbolta.build(edges, 40)), [4, 3, 2, 1])
+        self.assertEqual(sirbolta.lyndon_array(sirbolta.build(edges[::-1], 40)), [1, 1, 1, 1])
+        self.assertEqual((sirbolta.live_cuts(bytes([0, 127, 128])), sirbolta.live_cuts(bytes([0, 255, 1]))), ([2], [1]))
+
+    def test_former_tables(self):
+        for text in [bytes([255, 1]), bytes([1, 255]), bytes(i * i * 40503 >> 7 & 255 for i in range(2047)), bytes(i // 8 ^ 128 for i in range(2047))]:
+            for chair in 0, 40, 65_535:
+                table, words = sirbolta.build(text, chair), former(text, chair)
+                self.assertEqual((sirbolta.to_signed(words), sirbolta.read(sirbolta.to_signed(words))), (table, (text, chair)))
+                self.assertRaises(sirbolta.NotATable, sirbolta.to_signed, table)
+                for service, *arguments in SERVICES:
+                    self.assertRaises(sirbolta.NotATable, getattr(sirbolta, service), words, *arguments)
+
+    def test_former_tables_that_are_the_same(self):
+        for text in [b"", b"a", b"abab", bytes([255]) * 2047, bytes([255, 128] * 3), bytes(i // 16 for i in range(2047)), bytes(255 - i // 16 for i in range(2047))]:
+            table = sirbolta.build(text, 40)
+            self.assertEqual((sirbolta.Table(former(text, 40)), sirbolta.to_signed(table)), (table, table))
 
     def test_threads(self):
         texts = [bytes((i * j * j >> 3) % 7 for j in range(2047)) for i in range(1, 33)]
@@ -358,8 +394,7 @@ class Tables(unittest.TestCase):
         self.assertEqual(repr(self.table), "<sirbolta.Table of 12 words>")
 
     def test_each_method_is_the_function(self):
-        services = [("check", ()), ("read", ()), ("extract", (1, 2)), ("count", (b"ab",)), ("locate", (b"ab",)), ("lyndon_length", (1,)), ("lyndon_array", ())]
-        for service, arguments in services:
+        for service, *arguments in [*SERVICES, ("to_signed",)]:
             self.assertEqual(getattr(self.table, service)(*arguments), getattr(sirbolta, service)(self.table, *arguments))
             with self.assertRaises(sirbolta.TableLength):
                 getattr(sirbolta.Table(b""), service)(*arguments)
@@ -437,8 +472,7 @@ class Lending(unittest.TestCase):
         words += b"longer"
 
     def test_a_buffer_is_given_back_though_the_error_is_kept(self):
-        services = [("check",), ("read",), ("extract", 0, 1), ("count", b"ab"), ("locate", b"ab"), ("lyndon_length", 0), ("lyndon_array",)]
-        for service, *arguments in services:
+        for service, *arguments in [*SERVICES, ("to_signed",)]:
             for content in [b"\0" * 4, b"\0" * 7]:  # refused, and no whole words
                 self.given_back(getattr(sirbolta, service), bytearray(content), *arguments)
         words = bytes(self.table)
@@ -499,7 +533,7 @@ class Lending(unittest.TestCase):
 class Stacks(unittest.TestCase):
     """`read` and `locate` on threads with a stack that is large enough, and on one that is not."""
 
-    TEXTS = [b"a" * 2047, b"a" * 2046 + b"b", bytes(i // 8 for i in range(2047))]
+    TEXTS = [b"a" * 2047, b"a" * 2046 + b"b", bytes(i // 8 ^ 128 for i in range(2047))]
 
     def served(self):
         for text in self.TEXTS:
@@ -513,7 +547,7 @@ class Stacks(unittest.TestCase):
         self.assertRaisesRegex(RuntimeError, "240 KiB of stack are needed, and this thread has 12[0-9] KiB in all", table.read)
         self.assertRaisesRegex(RuntimeError, "240 KiB of stack are needed, and this thread has 12[0-9] KiB in all", table.locate, b"a")
         self.assertEqual((table.check(), table.count(b"a"), table.extract(2046, 1)), (2049, 2047, b"a"))
-        self.assertEqual((table.lyndon_length(0), table.lyndon_array()), (1, [1] * 2047))
+        self.assertEqual((table.lyndon_length(0), table.lyndon_array(), table.to_signed()), (1, [1] * 2047, table))
 
     def on_threads(self, stack, work):
         usual = threading.stack_size(stack)

@@ -1,11 +1,13 @@
 //! Tests the Rust module: every case of vector files that calls a service, and every refusal by its name. `binding FILE..`.
 
 mod calls;
+mod former;
 #[path = "../bindings/rust/sirbolta.rs"]
 mod sirbolta;
 mod vector_file;
 
 use calls::*;
+use former::former_table;
 use sirbolta::{Reading, Refusal, SAMPLES, TABLE, WORK};
 use vector_file::{cases, Test};
 
@@ -45,6 +47,7 @@ fn serve(call: &Call, lent: &Slices) -> (Outcome, Slices) {
         Call::Cuts { pattern } => sirbolta::live_cuts(pattern, words),
         Call::LyndonLength { table, position } => sirbolta::lyndon_length(table, *position, work),
         Call::LyndonArray { table } => sirbolta::lyndon_array(table, work, words),
+        Call::ToSigned { table } => sirbolta::to_signed(table, work, words),
         Call::Read { table } => return (outcome(sirbolta::read(table, work, bytes)), left),
     };
     (outcome(answer.map(|samples| Reading { samples, chair: 0 })), left)
@@ -57,12 +60,12 @@ fn outcome(answer: Result<Reading, Refusal>) -> Outcome {
     }
 }
 
-/// The largest table, the most positions, and the most and longest Lyndon words, in slices of the lengths that the module names.
+/// The largest table, also converted, the most positions, and the most and longest Lyndon words, in slices of the lengths that the module names.
 fn largest() {
     let mut work = vec![7; WORK];
     let mut result = vec![7; TABLE];
     let mut bytes = vec![7; SAMPLES];
-    let text: Vec<u8> = (0..2047u32).map(|i| (i / 8) as u8).collect();
+    let text: Vec<u8> = (0..2047i32).map(|i| (i / 8 - 128) as u8).collect();
     assert_eq!(sirbolta::build(&text, 65535, &mut work, &mut result), Ok(4608));
     assert_eq!(sirbolta::read(&result, &mut work, &mut bytes), Ok(Reading { samples: 2047, chair: 65535 }));
     assert_eq!(bytes, text);
@@ -70,9 +73,23 @@ fn largest() {
     assert_eq!(sirbolta::lyndon_length(&result, 0, &mut work), Ok(2047));
     assert_eq!(sirbolta::lyndon_array(&result, &mut work, &mut entries), Ok(2047));
     assert!(entries.iter().copied().eq((8..=2047).rev().chain([1; 7])));
+    let (table, former) = (result.clone(), former_table(&text, table_of));
+    result.fill(7);
+    assert_eq!(sirbolta::check(&former, &mut work), Err(Refusal::NotATable));
+    assert_eq!(sirbolta::to_signed(&table, &mut work, &mut result), Err(Refusal::NotATable));
+    assert_eq!(sirbolta::to_signed(&former, &mut work, &mut result), Ok(4608));
+    assert_eq!(result, table);
     let words = sirbolta::build(&[0; 2047], 0, &mut work, &mut result).unwrap();
     assert_eq!(sirbolta::locate(&result[..words], &[0], &mut work, &mut entries), Ok(2047));
     assert!(entries.iter().copied().eq(0..2047));
+}
+
+/// The table of a text and the largest chair number.
+fn table_of(text: &[u8]) -> Vec<u32> {
+    let mut table = vec![7; TABLE];
+    let words = sirbolta::build(text, 65535, &mut vec![7; WORK], &mut table).unwrap();
+    table.truncate(words);
+    table
 }
 
 fn every_refusal() {
@@ -110,6 +127,7 @@ fn every_refusal() {
     }
     assert_eq!(sirbolta::lyndon_length(&table, 4, &mut work), Err(Refusal::RangePastEnd));
     assert_eq!(sirbolta::lyndon_array(&table, &mut work, &mut result[..3]), Err(Refusal::ResultTooShort { needed: 4 }));
+    assert_eq!(sirbolta::to_signed(&table, &mut work, &mut result[..11]), Err(Refusal::ResultTooShort { needed: 12 }));
     assert_eq!(sirbolta::read(&table, &mut work, &mut bytes), Ok(Reading { samples: 4, chair: 40 }));
     assert_eq!(&bytes[..5], b"aaaa\x07");
 }

@@ -12,6 +12,7 @@ pub enum Call {
     Cuts { pattern: Vec<u8> },
     LyndonLength { table: Vec<u32>, position: usize },
     LyndonArray { table: Vec<u32> },
+    ToSigned { table: Vec<u32> },
 }
 
 /// The slices lent to a call. The result slice is the one in the service's unit, words or bytes; a slice that the service does not take is empty.
@@ -31,7 +32,7 @@ pub struct Outcome {
     pub chair: u32,
 }
 
-pub const SERVICES: [&str; 9] = ["build", "check", "read", "extract", "count", "locate", "cuts", "lyndon length", "lyndon array"];
+pub const SERVICES: [&str; 10] = ["build", "check", "read", "extract", "count", "locate", "cuts", "lyndon length", "lyndon array", "to signed"];
 
 impl Call {
     /// The service's place in `SERVICES`.
@@ -46,6 +47,7 @@ impl Call {
             Call::Cuts { .. } => 6,
             Call::LyndonLength { .. } => 7,
             Call::LyndonArray { .. } => 8,
+            Call::ToSigned { .. } => 9,
         }
     }
 }

@@ -12,7 +12,7 @@ mod tally;
 use calls::*;
 use damage::every_table;
 use inputs::{distinct_pairs, fibonacci, Generator};
-use naive::Naive;
+use naive::{Naive, Order};
 use tally::Tally;
 
 fn main() {
@@ -38,8 +38,9 @@ impl Comparison {
 
     fn short_texts(mut self) -> Tally {
         self.every_small_text();
-        for rules in 1..=5 {
-            every_table(rules).into_iter().for_each(|table| self.compare_once(Call::Check { table }));
+        for table in (1..=5).flat_map(every_table) {
+            self.compare_once(Call::Check { table: table.clone() });
+            self.compare_once(Call::ToSigned { table });
         }
         for _ in 0..4000 {
             let n = self.generator.below(61);
@@ -64,27 +65,31 @@ impl Comparison {
         self.tally
     }
 
-    /// So many tables whose rules are changed, checked.
+    /// So many tables whose rules are changed, checked, and as many of the former order, converted.
     fn misruled_tables(mut self, tables: usize) -> Tally {
-        let lent = Slices { work: self.generator.words(16384), ..Slices::default() };
+        let lent = Slices { work: self.generator.words(16384), words: self.generator.words(4608), bytes: vec![] };
         for _ in 0..tables / 50 {
             let n = self.generator.one_of(&[0, 1, 2, 3, 5, 8, 12, 20, 40, 200]);
             let text = self.generator.text(n);
-            let table = self.table_of(&text, 40);
+            let (table, former) = (self.table_of(&text, 40), naive::table_of(Order::Unsigned, &text, 40));
             for _ in 0..50 {
                 let table = self.generator.misruled(&table);
                 self.compared(&Call::Check { table }, &lent);
+                let table = self.generator.misruled(&former);
+                self.compared(&Call::ToSigned { table }, &lent);
             }
         }
         self.tally
     }
 
-    /// Every text of two values up to 7 samples, with every pattern up to 4 and every position, and live cuts and Lyndon arrays up to 10.
+    /// Every text of the samples 1 and -1 up to 7 samples, with every pattern up to 4 and every position, and live cuts, Lyndon arrays and conversion up to 10;
+    /// these also of the four samples at the ends of both orders, up to 5.
     fn every_small_text(&mut self) {
-        for text in (0..=7).flat_map(every_text) {
+        let two = |n| every_text(&[1, 255], n);
+        for text in (0..=7).flat_map(two) {
             let table = self.table_of(&text, 40);
             self.compare_once(Call::Read { table: table.clone() });
-            for pattern in (1..=4).flat_map(every_text) {
+            for pattern in (1..=4).flat_map(two) {
                 self.compare_once(Call::Count { table: table.clone(), pattern: pattern.clone() });
                 self.compare_once(Call::Locate { table: table.clone(), pattern });
             }
@@ -92,11 +97,16 @@ impl Comparison {
                 self.compare_once(Call::LyndonLength { table: table.clone(), position });
             }
         }
-        for text in (0..=10).flat_map(every_text) {
+        let four = |n| every_text(&[0, 127, 128, 255], n);
+        for text in (0..=10).flat_map(two).chain((0..=5).flat_map(four)) {
             let table = self.table_of(&text, 40);
-            self.compare_once(Call::LyndonArray { table });
+            let former = naive::table_of(Order::Unsigned, &text, 40);
+            self.compare_once(Call::LyndonArray { table: table.clone() });
+            self.compare_once(Call::ToSigned { table: former.clone() });
+            self.compare_once(Call::ToSigned { table });
+            self.compare_once(Call::Check { table: former });
+            self.compare_once(Call::Cuts { pattern: text });
         }
-        (1..=10).flat_map(every_text).for_each(|pattern| self.compare_once(Call::Cuts { pattern }));
     }
 
     /// Every service on the table of a text, and on tables made from it.
@@ -110,6 +120,7 @@ impl Comparison {
         for _ in 0..searches {
             self.search(&table, text);
         }
+        self.conversion(&table, &naive::table_of(Order::Unsigned, text, chair), damages);
         for _ in 0..damages {
             let other = self.generator.damaged(&table);
             self.compare(Call::Check { table: other.clone() });
@@ -134,6 +145,18 @@ impl Comparison {
         self.compare(Call::LyndonArray { table: table.to_vec() });
     }
 
+    /// The table of a text in the former order converted; that in the signed order converted and the former one checked, both refused unless they are the same;
+    /// tables made from the former one converted.
+    fn conversion(&mut self, table: &[u32], former: &[u32], damages: usize) {
+        self.compare(Call::ToSigned { table: former.to_vec() });
+        self.compare(Call::ToSigned { table: table.to_vec() });
+        self.compare(Call::Check { table: former.to_vec() });
+        for _ in 0..damages {
+            let table = self.generator.damaged(former);
+            self.compare(Call::ToSigned { table });
+        }
+    }
+
     /// The table of a text as the library builds it, which is compared too.
     fn table_of(&mut self, text: &[u8], chair: u16) -> Vec<u32> {
         let call = Call::Build { text: text.to_vec(), chair };
@@ -153,7 +176,7 @@ impl Comparison {
     }
 
     fn compare_once(&mut self, call: Call) {
-        let lent = self.lent(&call, 16384, 16);
+        let lent = self.lent(&call, 16384, 26);
         self.compared(&call, &lent);
     }
 
@@ -161,7 +184,7 @@ impl Comparison {
     fn lent(&mut self, call: &Call, work: usize, result: usize) -> Slices {
         let g = &mut self.generator;
         match call {
-            Call::Build { .. } | Call::Locate { .. } | Call::LyndonArray { .. } => {
+            Call::Build { .. } | Call::Locate { .. } | Call::LyndonArray { .. } | Call::ToSigned { .. } => {
                 Slices { work: g.words(work), words: g.words(result), bytes: vec![] }
             }
             Call::Read { .. } | Call::Extract { .. } => Slices { work: g.words(work), words: vec![], bytes: g.bytes(result) },
@@ -191,7 +214,10 @@ impl Comparison {
     }
 }
 
-/// Every text of n samples `a` and `b`.
-fn every_text(n: u32) -> impl Iterator<Item = Vec<u8>> {
-    (0..1u32 << n).map(move |bits| (0..n).map(|i| b'a' + (bits >> i & 1) as u8).collect())
+/// Every text of n samples of these values.
+fn every_text(values: &[u8], n: usize) -> Vec<Vec<u8>> {
+    if n == 0 {
+        return vec![vec![]];
+    }
+    every_text(values, n - 1).iter().flat_map(|front| values.iter().map(move |&last| [&front[..], &[last]].concat())).collect()
 }

@@ -71,7 +71,7 @@ impl Generator {
                     let rule = self.one_of(&[any, again]);
                     put_in(&mut other, r + 1, rule);
                 }
-                _ if !pair && 0 < r => other[2 * r] = self.one_of(&[0, 1, 98, 99, 100, 256]),
+                _ if !pair && 0 < r => other[2 * r] = self.one_of(&[0, 1, 98, 99, 128, 129, 256]),
                 _ => {}
             }
         }
@@ -120,7 +120,7 @@ impl Generator {
     /// The two words of some rule r, none of them bad.
     fn rule(&mut self, r: usize) -> [u32; 2] {
         match r == 0 || self.once_in(4) {
-            true => [self.one_of(&[0, 1, 98, 99, 256]), 3 * KIND],
+            true => [self.one_of(&[0, 1, 98, 99, 128, 129, 256]), 3 * KIND],
             false => [KIND | self.below(r) as u32, 2 * KIND | self.below(r) as u32],
         }
     }
@@ -156,13 +156,13 @@ fn put_in(table: &mut Vec<u32>, r: usize, rule: [u32; 2]) {
     table.splice(2 * r..2 * r, rule);
 }
 
-/// Every table of so many rules without a bad word, over the mark and two samples, with chair number 0.
+/// Every table of so many rules without a bad word, over the mark and the samples 1 and -1, with chair number 0.
 pub fn every_table(rules: usize) -> Vec<Vec<u32>> {
     if rules == 0 {
         return vec![vec![]];
     }
     let r = rules as u32 - 1;
-    let symbols = [0, 98, 99].map(|symbol| [symbol, 3 * KIND]);
+    let symbols = [0, 2, 256].map(|symbol| [symbol, 3 * KIND]);
     let pairs = (0..r).flat_map(|left| (0..r).map(move |right| [KIND | left, 2 * KIND | right]));
     let last: Vec<[u32; 2]> = symbols.into_iter().chain(pairs).collect();
     every_table(rules - 1).iter().flat_map(|front| last.iter().map(move |rule| [&front[..], rule].concat())).collect()

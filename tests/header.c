@@ -18,6 +18,9 @@ enum { WORK = 16384, WORDS = 12 };
 static const uint32_t abab[WORDS] = {0x00000000, 0xC0000028, 0x00000062, 0xC0000000, 0x00000063, 0xC0000000,
                                      0x40000001, 0x80000002, 0x40000000, 0x80000003, 0x40000004, 0x80000003};
 static const uint32_t lengths[4] = {2, 1, 2, 1};
+/* The table of the drive -1, 1, and its former one: there the first sample is the greater. */
+static const uint32_t rising[10] = {0x00000000, 0xC0000028, 0x00000100, 0xC0000000, 0x00000002, 0xC0000000, 0x40000001, 0x80000002, 0x40000000, 0x80000003};
+static const uint32_t former[10] = {0x00000000, 0xC0000028, 0x00000100, 0xC0000000, 0x40000000, 0x80000001, 0x00000002, 0xC0000000, 0x40000002, 0x80000003};
 static uint32_t work[WORK];
 static uint32_t words[WORDS];
 static uint8_t samples[4];
@@ -50,7 +53,9 @@ int main(void) {
     want("live_cuts", is(sirbolta_live_cuts(text, 4, words, 1), 0, 0, 1, 0) && words[0] == 2);
     want("lyndon_length", is(sirbolta_lyndon_length(abab, WORDS, 2, work, WORK), 0, 0, 2, 0));
     want("lyndon_array", is(sirbolta_lyndon_array(abab, WORDS, work, WORK, words, 4), 0, 0, 4, 0) && memcmp(words, lengths, sizeof lengths) == 0);
+    want("to_signed", is(sirbolta_to_signed(former, 10, work, WORK, words, 10), 0, 0, 10, 0) && memcmp(words, rising, sizeof rising) == 0);
+    want("to_signed of the signed table", is(sirbolta_to_signed(rising, 10, work, WORK, words, 10), 7, 0, 0, 0));
     want("a null table", is(sirbolta_check(NULL, 0, work, WORK), 5, 0, 0, 0));
-    if (!wrong) printf("header: 11 calls from C are right\n");
+    if (!wrong) printf("header: 13 calls from C are right\n");
     return wrong;
 }

@@ -63,10 +63,10 @@ impl Generator {
         }
     }
 
-    /// A sample, often the least or the greatest.
+    /// A sample, often one at an end of the signed or the unsigned order.
     fn sample(&mut self) -> u8 {
         let any = self.next() as u8;
-        self.one_of(&[0, 255, b'a', b'b', any])
+        self.one_of(&[0, 127, 128, 255, b'a', b'b', any])
     }
 
     /// Samples of two to four values.

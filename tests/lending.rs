@@ -29,6 +29,7 @@ pub fn serve(call: &Call, lent: &Slices, null: bool) -> Result<(Outcome, Slices)
             Call::Cuts { .. } => replied(sirbolta_live_cuts(s, sn, r, rn)),
             Call::LyndonLength { position, .. } => replied(sirbolta_lyndon_length(t, tn, *position, w, wn)),
             Call::LyndonArray { .. } => replied(sirbolta_lyndon_array(t, tn, w, wn, r, rn)),
+            Call::ToSigned { .. } => replied(sirbolta_to_signed(t, tn, w, wn, r, rn)),
         }
     };
     if text_lent.taken_back("samples")? != text || table_lent.taken_back("table")? != table {
@@ -45,7 +46,7 @@ fn inputs(call: &Call) -> (&[u8], &[u32]) {
         Call::Check { table } | Call::Read { table } | Call::Extract { table, .. } => (&[], table),
         Call::Count { table, pattern } | Call::Locate { table, pattern } => (pattern, table),
         Call::Cuts { pattern } => (pattern, &[]),
-        Call::LyndonLength { table, .. } | Call::LyndonArray { table } => (&[], table),
+        Call::LyndonLength { table, .. } | Call::LyndonArray { table } | Call::ToSigned { table } => (&[], table),
     }
 }
 

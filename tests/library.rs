@@ -75,4 +75,12 @@ extern "C" {
         result: *mut u32,
         result_len: usize,
     ) -> Reply;
+    pub fn sirbolta_to_signed(
+        table: *const u32,
+        table_len: usize,
+        work: *mut u32,
+        work_len: usize,
+        result: *mut u32,
+        result_len: usize,
+    ) -> Reply;
 }

@@ -2,8 +2,10 @@
 //! Lyndon tree is deep to the left; two whose tree is deep to the right, of which the rising one has the largest table; and one that is neither.
 //! Prints how many calls were right.
 
+mod former;
 mod library;
 
+use former::former_table;
 use library::*;
 
 const CHAIR: u16 = 65535;
@@ -19,10 +21,10 @@ fn calls() -> usize {
     let left = vec![b'a'; 2047];
     let mut right = left.clone();
     right[2046] = b'b';
-    let rising: Vec<u8> = (0..2047u32).map(|i| (i / 8) as u8).collect();
+    let rising: Vec<u8> = (0..2047i32).map(|i| (i / 8 - 128) as u8).collect();
     assert_eq!(table_of(&rising).len(), 4608);
     let neither = (0..2047u32).map(|i| (i * i * 40503 >> 7) as u8).collect();
-    let served = |text: &Vec<u8>| check_and_read(text) + extract(text) + search(text, 1) + search(text, 2) + cut(text) + longest(text);
+    let served = |text: &Vec<u8>| check_and_read(text) + extract(text) + search(text, 1) + search(text, 2) + cut(text) + longest(text) + convert(text);
     [left, right, rising, neither].iter().map(served).sum()
 }
 
@@ -84,10 +86,10 @@ fn search(text: &[u8], samples: usize) -> usize {
 
 /// Lists the live cuts of the whole drive, taken as a pattern.
 fn cut(pattern: &[u8]) -> usize {
-    let m = pattern.len();
+    let (samples, m) = (signed(pattern), pattern.len());
     let passes = |c: usize, d: usize| {
         let shorter = m - c.max(d);
-        pattern[c..c + shorter] <= pattern[d..d + shorter]
+        samples[c..c + shorter] <= samples[d..d + shorter]
     };
     let live: Vec<u32> = (1..m).filter(|&c| (1..m).all(|d| passes(c, d))).map(|c| c as u32).collect();
     let mut result = vec![7u32; live.len()];
@@ -101,7 +103,8 @@ fn cut(pattern: &[u8]) -> usize {
 /// more is refused.
 fn longest(text: &[u8]) -> usize {
     let table = table_of(text);
-    let to_smaller = |i: usize| (i + 1..text.len()).find(|&j| text[j..] < text[i..]).unwrap_or(text.len()) - i;
+    let samples = signed(text);
+    let to_smaller = |i: usize| (i + 1..text.len()).find(|&j| samples[j..] < samples[i..]).unwrap_or(text.len()) - i;
     let lengths: Vec<u32> = (0..text.len()).map(|i| to_smaller(i) as u32).collect();
     let mut work = vec![7u32; 16384];
     let mut result = vec![7u32; lengths.len()];
@@ -118,4 +121,24 @@ fn longest(text: &[u8]) -> usize {
         }
     }
     1 + positions.len()
+}
+
+/// Converts the drive's former table; with a word less than its table has, that is refused.
+fn convert(text: &[u8]) -> usize {
+    let (table, former) = (table_of(text), former_table(text, table_of));
+    let mut work = vec![7u32; 16384];
+    let (w, n) = (work.as_mut_ptr(), work.len());
+    let mut result = vec![7u32; table.len()];
+    let (r, k) = (result.as_mut_ptr(), result.len());
+    let refused = unsafe { sirbolta_to_signed(former.as_ptr(), former.len(), w, n, r, k - 1) };
+    assert_eq!((refused.number, refused.place as usize), (9, k));
+    let converted = unsafe { sirbolta_to_signed(former.as_ptr(), former.len(), w, n, r, k) };
+    assert_eq!((converted.number, converted.chair, converted.count as usize), (0, 0, k));
+    assert_eq!(result, table);
+    2
+}
+
+/// What samples mean.
+fn signed(samples: &[u8]) -> Vec<i8> {
+    samples.iter().map(|&sample| sample as i8).collect()
 }

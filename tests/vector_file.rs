@@ -52,7 +52,7 @@ fn items<'a>(lines: &[&'a str]) -> Result<Items<'a>, String> {
 }
 
 fn test(mut items: Items) -> Result<Test, String> {
-    if !matches!(take(&mut items, "stage")?, "0" | "1") {
+    if take(&mut items, "stage")? != "2" {
         return Err("an unknown stage".into());
     }
     let test = match take(&mut items, "call")? {
@@ -92,6 +92,7 @@ fn call(service: &str, items: &mut Items) -> Result<Call, String> {
                 "list" => Call::Locate { table, pattern: entries(take(items, "arg motif")?)? },
                 "longest" => Call::LyndonLength { table, position: number(items, "arg position")? },
                 "longest_all" => Call::LyndonArray { table },
+                "convert_order" => Call::ToSigned { table },
                 _ => return Err(format!("an unknown call: {service}")),
             }
         }
@@ -101,7 +102,7 @@ fn call(service: &str, items: &mut Items) -> Result<Call, String> {
 /// The unit of the service's result slice, if it has one.
 fn unit(call: &Call) -> Option<&'static str> {
     match call {
-        Call::Build { .. } | Call::Locate { .. } | Call::Cuts { .. } | Call::LyndonArray { .. } => Some("words"),
+        Call::Build { .. } | Call::Locate { .. } | Call::Cuts { .. } | Call::LyndonArray { .. } | Call::ToSigned { .. } => Some("words"),
         Call::Read { .. } | Call::Extract { .. } => Some("bytes"),
         Call::Check { .. } | Call::Count { .. } | Call::LyndonLength { .. } => None,
     }

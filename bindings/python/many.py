@@ -8,10 +8,10 @@ import sirbolta
 store = sqlite3.connect(":memory:")
 store.execute("create table drives (number integer primary key, words blob)")
 for number in range(1000):
-    drive = bytes([128] * (number % 60) + [129, 130, 131]) * 20
+    drive = bytes([0] * (number % 60) + [1, 2, 3]) * 20
     store.execute("insert into drives values (?, ?)", (number, sirbolta.build(drive, chair=40)))
 
-motif = bytes([128, 129, 130])
+motif = bytes([0, 1, 2])
 tables = [sirbolta.Table(words) for (words,) in store.execute("select words from drives order by number")]
 
 

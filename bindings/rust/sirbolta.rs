@@ -7,6 +7,10 @@
 //! refusals 1 to 6; after the others and success its first `WORK` words are 0 and the rest is as it was. Reading back and locating take up to
 //! 240 KiB of stack, every other service less than 2 KiB: a thread that reads back or locates wants a stack above that, as Rust's own have.
 //!
+//! Samples are compared as signed numbers, a byte of 128 or more meaning itself minus 256. A former table is one that was built while they were compared as
+//! unsigned numbers. `to_signed` takes former tables and no others; to every other function they are `NotATable`, unless all samples of the text are below 128
+//! or none is: the two orders then give the same table.
+//!
 //! A program with a library of another interface number ends before `main` and says so.
 #![allow(dead_code)]
 
@@ -18,7 +22,7 @@ pub const INTERFACE: u32 = 1;
 /// The words that a work slice needs.
 pub const WORK: usize = 16_384;
 
-/// The most samples of a text or a pattern: no result but that of `build` has more entries.
+/// The most samples of a text or a pattern: no result but a table has more entries.
 pub const SAMPLES: usize = 2_047;
 
 /// The most words of a table.
@@ -95,7 +99,7 @@ pub fn live_cuts(pattern: &[u8], result: &mut [u32]) -> Result<usize, Refusal> {
 }
 
 /// The length of the longest Lyndon word that begins at `position` in the text; `RangePastEnd` where it has no such position. A Lyndon word is not empty,
-/// and smaller than each of its proper suffixes but the empty one; samples compare as unsigned numbers, and a proper prefix is smaller.
+/// and smaller than each of its proper suffixes but the empty one; samples are compared as signed numbers, and a proper prefix is smaller.
 pub fn lyndon_length(table: &[u32], position: usize, work: &mut [u32]) -> Result<usize, Refusal> {
     counted(unsafe { sirbolta_lyndon_length(table.as_ptr(), table.len(), position, work.as_mut_ptr(), work.len()) })
 }
@@ -104,6 +108,13 @@ pub fn lyndon_length(table: &[u32], position: usize, work: &mut [u32]) -> Result
 pub fn lyndon_array(table: &[u32], work: &mut [u32], result: &mut [u32]) -> Result<usize, Refusal> {
     let (w, n, r, m) = (work.as_mut_ptr(), work.len(), result.as_mut_ptr(), result.len());
     counted(unsafe { sirbolta_lyndon_array(table.as_ptr(), table.len(), w, n, r, m) })
+}
+
+/// Writes the table of the text and the chair number of a former table, and answers how many words it has; `NotATable` where no text and chair number has this
+/// former table.
+pub fn to_signed(table: &[u32], work: &mut [u32], result: &mut [u32]) -> Result<usize, Refusal> {
+    let (w, n, r, m) = (work.as_mut_ptr(), work.len(), result.as_mut_ptr(), result.len());
+    counted(unsafe { sirbolta_to_signed(table.as_ptr(), table.len(), w, n, r, m) })
 }
 
 impl Refusal {
@@ -157,7 +168,7 @@ impl fmt::Display for Refusal {
             Refusal::WorkTooShort => write!(f, "the work slice has fewer than 16,384 words"),
             Refusal::TableLength => write!(f, "the table has no word, an odd number of words, or more than 4,608"),
             Refusal::BadWord { at } => write!(f, "word {at} of the table is bad"),
-            Refusal::NotATable => write!(f, "no text and chair number has this table"),
+            Refusal::NotATable => write!(f, "no text and chair number has this table, in the order by which it is judged"),
             Refusal::RangePastEnd => write!(f, "the range or position reaches past the end of the text"),
             Refusal::ResultTooShort { needed } => write!(f, "the result slice is too short, {needed} entries are needed"),
         }
@@ -221,4 +232,5 @@ unsafe extern "C" {
     fn sirbolta_live_cuts(pattern: *const u8, pattern_len: usize, result: *mut u32, result_len: usize) -> Reply;
     fn sirbolta_lyndon_length(table: *const u32, table_len: usize, position: usize, work: *mut u32, work_len: usize) -> Reply;
     fn sirbolta_lyndon_array(table: *const u32, table_len: usize, work: *mut u32, work_len: usize, result: *mut u32, result_len: usize) -> Reply;
+    fn sirbolta_to_signed(table: *const u32, table_len: usize, work: *mut u32, work_len: usize, result: *mut u32, result_len: usize) -> Reply;
 }

@@ -1,4 +1,4 @@
-//! Document 01 and request S-1 of document 02 once more, slow and plain, for comparison. Nothing is shared with the library, and definitions are
+//! Document 01 and requests S-1 and S-2 of document 02 once more, slow and plain, for comparison. Nothing is shared with the library, and definitions are
 //! followed as they are worded, but for two:
 //!
 //! - Above 64 symbols `Common` stands in for the wording of the standard factorization, of live cuts and of the longest Lyndon words, which takes
@@ -6,8 +6,11 @@
 //!   are compared.
 //! - Whether a table is that of some drive is not tried drive by drive: it can only be the one that its last rule spells.
 
+mod order;
 mod services;
 mod tables;
 mod words;
 
+pub use order::Order;
 pub use services::Naive;
+pub use tables::table_of;

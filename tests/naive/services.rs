@@ -1,5 +1,6 @@
 //! What each service answers and leaves in the slices: of the refusals that concern it, the lowest number that is met.
 
+use super::order::Order;
 use super::tables::{bad_word, drive_of, table_of};
 use super::words::{live_cuts, lyndon_array, occurrences};
 use crate::calls::*;
@@ -15,7 +16,7 @@ enum Verdict {
 /// The answers, with the last table judged, the last one built and the last drive's Lyndon array kept, so that many calls on one table judge it once.
 #[derive(Default)]
 pub struct Naive {
-    judged: Option<(Vec<u32>, Verdict)>,
+    judged: Option<(Order, Vec<u32>, Verdict)>,
     built: Option<(Vec<u8>, u16, Vec<u32>)>,
     lengths: Option<(Vec<u8>, Vec<usize>)>,
 }
@@ -62,11 +63,11 @@ impl Naive {
             3 => pattern(call).len() > 2047,
             4 => lent.work.len() < 16384,
             5 => matches!(table(call).len(), 0 | 4609..) || table(call).len() % 2 == 1,
-            6 => match self.verdict(table(call)) {
+            6 => match self.verdict(call) {
                 Verdict::Bad(place) => return Some(place),
                 _ => false,
             },
-            7 => matches!(self.verdict(table(call)), Verdict::Foreign),
+            7 => matches!(self.verdict(call), Verdict::Foreign),
             _ => match call {
                 Call::Extract { start, length, .. } => *start as u128 + *length as u128 > self.drive(call).len() as u128,
                 Call::LyndonLength { position, .. } => *position >= self.drive(call).len(),
@@ -83,7 +84,7 @@ impl Naive {
             Call::Check { table } => (table.len() / 2, 0),
             Call::Count { pattern, .. } => (occurrences(pattern, &self.drive(call)).len(), 0),
             Call::LyndonLength { position, .. } => (self.lyndon_array(call)[*position], 0),
-            Call::Read { table } => (entries, self.chair(table)),
+            Call::Read { .. } => (entries, self.chair(call)),
             _ => (entries, 0),
         };
         Outcome { number: 0, place: 0, count: count as u64, chair: chair as u32 }
@@ -95,15 +96,19 @@ impl Naive {
             Call::Read { .. } => Written::Bytes(self.drive(call)),
             Call::Extract { start, length, .. } => Written::Bytes(self.drive(call)[*start..*start + *length].to_vec()),
             Call::Locate { pattern, .. } => Written::Words(as_words(&occurrences(pattern, &self.drive(call)))),
-            Call::Cuts { pattern } => Written::Words(as_words(&live_cuts(pattern))),
+            Call::Cuts { pattern } => Written::Words(as_words(&live_cuts(&Order::Signed.values(pattern)))),
             Call::LyndonArray { .. } => Written::Words(as_words(&self.lyndon_array(call))),
+            Call::ToSigned { .. } => {
+                let (drive, chair) = (self.drive(call), self.chair(call));
+                Written::Words(self.build(&drive, chair))
+            }
             Call::Check { .. } | Call::Count { .. } | Call::LyndonLength { .. } => Written::Nothing,
         }
     }
 
     /// The drive of the call's table, which is accepted.
     fn drive(&mut self, call: &Call) -> Vec<u8> {
-        match self.verdict(table(call)) {
+        match self.verdict(call) {
             Verdict::Drive(text, _) => text,
             _ => vec![],
         }
@@ -114,29 +119,32 @@ impl Naive {
         match &self.lengths {
             Some((text, lengths)) if *text == drive => lengths.clone(),
             _ => {
-                let lengths = lyndon_array(&drive);
+                let lengths = lyndon_array(&Order::Signed.values(&drive));
                 self.lengths = Some((drive, lengths.clone()));
                 lengths
             }
         }
     }
 
-    fn chair(&mut self, table: &[u32]) -> u16 {
-        match self.verdict(table) {
+    fn chair(&mut self, call: &Call) -> u16 {
+        match self.verdict(call) {
             Verdict::Drive(_, chair) => chair,
             _ => 0,
         }
     }
 
-    fn verdict(&mut self, table: &[u32]) -> Verdict {
+    /// What the call's table is. The converter alone judges by the unsigned order.
+    fn verdict(&mut self, call: &Call) -> Verdict {
+        let order = if matches!(call, Call::ToSigned { .. }) { Order::Unsigned } else { Order::Signed };
+        let table = table(call);
         match &self.judged {
-            Some((judged, verdict)) if judged == table => verdict.clone(),
+            Some((by, judged, verdict)) if *by == order && judged == table => verdict.clone(),
             _ => {
                 let verdict = match bad_word(table) {
                     Some(place) => Verdict::Bad(place),
-                    None => drive_of(table).map_or(Verdict::Foreign, |(text, chair)| Verdict::Drive(text, chair)),
+                    None => drive_of(order, table).map_or(Verdict::Foreign, |(text, chair)| Verdict::Drive(text, chair)),
                 };
-                self.judged = Some((table.to_vec(), verdict.clone()));
+                self.judged = Some((order, table.to_vec(), verdict.clone()));
                 verdict
             }
         }
@@ -146,7 +154,7 @@ impl Naive {
         match &self.built {
             Some((t, c, words)) if t == text && *c == chair => words.clone(),
             _ => {
-                let words = table_of(text, chair);
+                let words = table_of(Order::Signed, text, chair);
                 self.built = Some((text.to_vec(), chair, words.clone()));
                 words
             }
@@ -198,6 +206,7 @@ fn table(call: &Call) -> &[u32] {
     match call {
         Call::Build { .. } | Call::Cuts { .. } => &[],
         Call::Check { table } | Call::Read { table } | Call::Extract { table, .. } => table,
-        Call::Count { table, .. } | Call::Locate { table, .. } | Call::LyndonLength { table, .. } | Call::LyndonArray { table } => table,
+        Call::Count { table, .. } | Call::Locate { table, .. } | Call::LyndonLength { table, .. } => table,
+        Call::LyndonArray { table } | Call::ToSigned { table } => table,
     }
 }

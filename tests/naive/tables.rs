@@ -1,11 +1,15 @@
-//! The table of a drive and chair number, the bad words of a table, and whether a table is that of some drive and chair number.
+//! The table of a drive and chair number in an order of samples, the bad words of a table, and whether a table is that of some drive and chair number.
 
+use super::order::Order;
 use super::words::Common;
 use std::collections::HashMap;
 
+/// The mark, smaller than what any sample means in any order.
+const MARK: i16 = i16::MIN;
+
 /// The words of the table of a drive and a chair number.
-pub fn table_of(text: &[u8], chair: u16) -> Vec<u32> {
-    let marked: Vec<u16> = std::iter::once(0).chain(text.iter().map(|&sample| sample as u16 + 1)).collect();
+pub fn table_of(order: Order, text: &[u8], chair: u16) -> Vec<u32> {
+    let marked = [vec![MARK], order.values(text)].concat();
     let mut numbering = Numbering { common: Common::new(&marked), marked: &marked, rules: HashMap::new(), words: Vec::new() };
     numbering.meet(0, marked.len());
     let mut words = numbering.words;
@@ -15,9 +19,9 @@ pub fn table_of(text: &[u8], chair: u16) -> Vec<u32> {
 
 /// The strings met so far, each with its rule, and the words of these rules.
 struct Numbering<'a> {
-    marked: &'a [u16],
-    common: Common<'a, u16>,
-    rules: HashMap<&'a [u16], u32>,
+    marked: &'a [i16],
+    common: Common<'a, i16>,
+    rules: HashMap<&'a [i16], u32>,
     words: Vec<u32>,
 }
 
@@ -26,7 +30,8 @@ impl Numbering<'_> {
     fn meet(&mut self, start: usize, end: usize) -> u32 {
         let string = &self.marked[start..end];
         let words = match string {
-            [symbol] => [*symbol as u32, 3 << 30],
+            [MARK] => [0, 3 << 30],
+            [value] => [*value as u8 as u32 + 1, 3 << 30], // a value and its byte differ by 0 or 256
             _ => {
                 let middle = self.common.split(start, end);
                 [1 << 30 | self.meet(start, middle), 2 << 30 | self.meet(middle, end)]
@@ -67,13 +72,13 @@ pub fn bad_word(table: &[u32]) -> Option<usize> {
 }
 
 /// The drive and chair number of a table without a bad word, if there are any.
-pub fn drive_of(table: &[u32]) -> Option<(Vec<u8>, u16)> {
+pub fn drive_of(order: Order, table: &[u32]) -> Option<(Vec<u8>, u16)> {
     let mut symbols = Vec::new();
     spell(table, table.len() / 2 - 1, &mut symbols);
     let samples = symbols.strip_prefix(&[0])?;
     let text: Vec<u8> = samples.iter().map(|&symbol| symbol.checked_sub(1).map(|sample| sample as u8)).collect::<Option<_>>()?;
     let chair = parts(table[1]).1 as u16;
-    (text.len() <= 2047 && table_of(&text, chair) == table).then_some((text, chair))
+    (text.len() <= 2047 && table_of(order, &text, chair) == table).then_some((text, chair))
 }
 
 /// Adds the string of a rule, and stops once there are more symbols than a marked drive has.

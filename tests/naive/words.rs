@@ -1,6 +1,7 @@
 //! Strings: which is smaller, Lyndon words, the longest of them from a position, the standard factorization, live cuts and occurrences.
 
 use std::cmp::Ordering;
+use std::fmt::Debug;
 
 /// The longest string for which the wording itself is followed.
 const SHORT: usize = 64;
@@ -49,7 +50,7 @@ fn cuts_by_wording<T: Ord>(p: &[T]) -> Vec<usize> {
 }
 
 /// The live cuts of a pattern, rising.
-pub fn live_cuts(p: &[u8]) -> Vec<usize> {
+pub fn live_cuts<T: Ord + Debug>(p: &[T]) -> Vec<usize> {
     if p.len() > SHORT {
         return Common::new(p).live_cuts();
     }

@@ -5,11 +5,15 @@
     >>> table.locate(b"ab")
     [0, 2]
 
-A text is a drive: at most 2,047 samples of one byte. A pattern is 1 to 2,047 samples. Both are bytes, or any buffer of single bytes.
+A text is a drive: at most 2,047 samples of one byte. A pattern is 1 to 2,047 samples. Both are bytes, or any buffer of single bytes. Samples are compared
+as signed numbers, a byte of 128 or more meaning itself minus 256.
 
-A table is a `Table`, which `build` answers, or any buffer with a table's words: single bytes, four a word and the lowest first, or unsigned words of 32
-bits. It is read where it stands; only where its words are not aligned to four bytes, or stand apart, it is copied. A sequence of whole numbers is taken
-too, and converted at each call. Nothing may write to a buffer while a call reads it: the answer may then be wrong, or the process crash.
+A table is a `Table`, which `build` and `to_signed` answer, or any buffer with a table's words: single bytes, four a word and the lowest first, or unsigned
+words of 32 bits. It is read where it stands; only where its words are not aligned to four bytes, or stand apart, it is copied. A sequence of whole numbers
+is taken too, and made into words at each call. Nothing may write to a buffer while a call reads it: the answer may then be wrong, or the process crash.
+
+A former table is one that was built while samples were compared as unsigned numbers. `to_signed` takes former tables and no others; every other function
+raises NotATable for them, unless all samples of the text are below 128 or none is: the two orders then give the same table.
 
 Each service answers from its arguments alone, or raises the refusal whose check is met first, a subclass of `Refusal`. `WorkTooShort` and
 `ResultTooShort` are never met: this package lends slices that are long enough. Before the library is called, an argument of another type raises
@@ -44,8 +48,8 @@ else:
     Buffer = object
 
 __all__ = [
-    "INTERFACE", "Table", "build", "check", "read", "extract", "count", "count_each", "locate", "live_cuts", "lyndon_length", "lyndon_array", "Refusal",
-    "TextTooLong", "PatternEmpty", "PatternTooLong", "WorkTooShort", "TableLength", "BadWord", "NotATable", "RangePastEnd", "ResultTooShort",
+    "INTERFACE", "Table", "build", "check", "read", "extract", "count", "count_each", "locate", "live_cuts", "lyndon_length", "lyndon_array", "to_signed",
+    "Refusal", "TextTooLong", "PatternEmpty", "PatternTooLong", "WorkTooShort", "TableLength", "BadWord", "NotATable", "RangePastEnd", "ResultTooShort",
 ]
 
 Samples = Buffer
@@ -63,7 +67,7 @@ _LARGEST = 2**64 - 1  # of a start, a length or a position; no text reaches as f
 class Table:
     """A table: its words as bytes, four a word and the lowest first, which do not change.
 
-    It is made by `build`, or from the words of a table; whether they are one, the services say, not this class. It is equal to a table of the same
+    It is made by `build` or `to_signed`, or from the words of a table; whether they are one, the services say, not this class. It is equal to a table of the same
     words, may be a key or a member of a set, is pickled, and goes as a BLOB into a database of `sqlite3`, from where its bytes come back.
 
     >>> table = build(b"abab", chair=40)
@@ -114,6 +118,10 @@ class Table:
     def lyndon_array(self) -> list[int]:
         """The length of the longest Lyndon word that begins at each position of its text: `sirbolta.lyndon_array`."""
         return lyndon_array(self)
+
+    def to_signed(self) -> Table:
+        """The table of the text and the chair number of this former table: `sirbolta.to_signed`."""
+        return to_signed(self)
 
     def __bytes__(self) -> bytes:
         return self._bytes
@@ -252,7 +260,7 @@ def live_cuts(pattern: Samples) -> list[int]:
 def lyndon_length(table: Words, position: int) -> int:
     """The length of the longest Lyndon word that begins at a position of the text. Refusals: those of `check`; RangePastEnd where it has no such position.
 
-    A Lyndon word is not empty, and smaller than each of its proper suffixes but the empty one; samples compare as unsigned numbers, and a proper prefix is smaller.
+    A Lyndon word is not empty, and smaller than each of its proper suffixes but the empty one; samples are compared as signed numbers, and a proper prefix is smaller.
 
     >>> lyndon_length(build(b"abab", chair=40), position=2)
     2
@@ -268,6 +276,20 @@ def lyndon_array(table: Words) -> list[int]:
     """
     result = _Numbers()
     return result[: _counted(_reply_to(table, _library.sirbolta_lyndon_array, _work(), _WORK, result, _SAMPLES))]
+
+
+def to_signed(table: Words) -> Table:
+    """The table of the text and the chair number of a former table. Refusals: those of `check`; NotATable where no text and chair number has this former table.
+
+    >>> former = [0, 0xC0000028, 256, 0xC0000000, 0x40000000, 0x80000001, 2, 0xC0000000, 0x40000002, 0x80000003]
+    >>> to_signed(former) == build(bytes([255, 1]), chair=40)
+    True
+    >>> check(former)
+    Traceback (most recent call last):
+    sirbolta.refusals.NotATable: refused 7: no text and chair number has this table, in the order by which it is judged
+    """
+    result = _TableWords()
+    return Table(ctypes.string_at(result, 4 * _counted(_reply_to(table, _library.sirbolta_to_signed, _work(), _WORK, result, _TABLE))))
 
 
 def _counted(reply: _Reply | _SearchReply) -> int:

@@ -41,6 +41,7 @@ FUNCTIONS: dict[str, tuple[type[ctypes.Structure] | None, list[Any]]] = {
     "live_cuts": (Reply, SLICE * 2),
     "lyndon_length": (Reply, SLICE + [ctypes.c_size_t] + SLICE),
     "lyndon_array": (Reply, SLICE * 3),
+    "to_signed": (Reply, SLICE * 3),
     "count_each": (None, [ctypes.c_void_p] * 2 + [ctypes.c_size_t] + SLICE * 2 + [ctypes.c_void_p]),
 }
 

@@ -46,7 +46,7 @@ class BadWord(Refusal):
 
 
 class NotATable(Refusal):
-    number, reason = 7, "no text and chair number has this table"
+    number, reason = 7, "no text and chair number has this table, in the order by which it is judged"
 
 
 class RangePastEnd(Refusal):
