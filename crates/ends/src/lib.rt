@@ -7,7 +7,6 @@ use compare::before;
 use definitions::Order;
 use layout::CLOSINGS;
 use layout::LONGEST;
-use ranks::rank_of;
 use slices::put;
 use slices::wide;
 ghost use mathlib.Core.Path.{_≡_};
@@ -25,12 +24,9 @@ pub fn place_text(order: Order, text: &[u8], work: &mut [u32])
     requires { ⌜ length (now text) < length (now work) ⌝ }
     ensures { λ _. ⌜ now (work .exit) ≡ placed (marked order (now (text .entry))) (now (work .entry)) ⌝ }
 {
-    let mut i = 0;
-    while i < text.len() {
-        work[1 + i] = rank_of(order, text[i]);
-        i += 1;
-    }
-    work[0] = 0;
+    let n = text.len() + 1;
+    ranks::write(order, text, &mut work[1..n]);
+    put(work, 0, 0);
 }
 
 // The lengths of the longest Lyndon words of the n ranks at the front, and the closings.

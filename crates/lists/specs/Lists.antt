@@ -5,7 +5,7 @@ use Prim.Native.Nat.{ℕ, suc, _+_, _-_, _≤_, _<_}
 use native.Mathlib.Omega.{arith}
 use native.Mathlib.Numerals.{add-one}
 use lib.ListN.{length, take, drop, getD, set, length-map, length-append, length-drop, drop-of-length-le}
-use lib.Seq.{drop-cons, set-at, take-all, take-at, take-suc, take-append-seam, length-take-le, drop-at, drop-drop, getD-append-add, getD-drop}
+use lib.Seq.{take-length, drop-cons, set-at, take-all, take-at, take-suc, take-append-seam, length-take-le, drop-at, drop-drop, getD-append-add, getD-drop}
 use Rattle.definitions.specs.Words.{placed}
 
 module _ {ℓ} {A : Type ℓ} where
@@ -116,6 +116,10 @@ mapped-more f l old w i h k e =
 
     more : map f (take i l) ++ (f (getD l i 0) ∷ []) ≡ map f (take (i + 1) l)
     more = sym (map-append f (take i l) (getD l i 0 ∷ [])) ∙ ap (map f) (sym (take-suc l i 0 h) ∙ ap (λ (n : ℕ). take n l) (sym (add-one i)))
+
+pub mapped-all : (f : ℕ → ℕ) (l old w : List ℕ) (i : ℕ) → i ≡ length l → w ≡ placed (map f (take i l)) old → w ≡ placed (map f l) old
+mapped-all f l old w i e h =
+    h ∙ ap (λ (n : ℕ). placed (map f (take n l)) old) e ∙ ap (λ (x : List ℕ). placed (map f x) old) (take-length l)
 
 -- what stands behind them is as before
 pub mapped-rest : (f : ℕ → ℕ) (l : List ℕ) (i : ℕ) → i < length l → getD (placed (map f (take i l)) l) i 0 ≡ getD l i 0

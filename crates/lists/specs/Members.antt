@@ -1,10 +1,11 @@
--- Members of a list of numbers: at an index, in a mapped list, behind a place; a list without one. A mapped list, its fronts and rests.
+-- Members of a list of numbers: at an index, in a rising list, in a mapped list, behind a place; a list without one. A mapped list, its fronts and rests.
 use mathlib.Core.Path.{_≡_, refl, sym, ap}
 use mathlib.Core.Logic.{_⊎_, inl, inr}
 use mathlib.Core.List.{List, [], _∷_, map, List·Memᴰ as In, List·Memᴰ·head as here, List·Memᴰ·tail as there, List·Memᴰ·not-nil as in-nil, List·Memᴰ·cases-cons as in-cons}
 use Prim.Native.Nat.{ℕ, zero, suc, _<_}
 use native.Mathlib.Omega.{arith}
 use lib.ListN.{length, take, drop, getD}
+use Rattle.lists.specs.Numbers.{Rising}
 
 pub in-at : (b : ℕ) (l : List ℕ) → In b l → (i : ℕ) × (i < length l) × (getD l i 0 ≡ b)
 in-at b [] m = absurd (in-nil m)
@@ -18,6 +19,13 @@ pub at-in : (l : List ℕ) (i : ℕ) → i < length l → In (getD l i 0) l
 at-in [] i h = absurd (omega arith)
 at-in (a ∷ l) zero h = here refl
 at-in (a ∷ l) (suc i) h = there (at-in l i (omega arith))
+
+-- in a rising list
+pub rising-at : (l : List ℕ) → Rising l → (i j : ℕ) → i < j → j < length l → getD l i 0 < getD l j 0
+rising-at [] r i j h k = absurd (omega arith)
+rising-at (a ∷ l) r i zero h k = absurd (omega arith)
+rising-at (a ∷ l) r zero (suc j) h k = r .0 (getD l j 0) (at-in l j (omega arith))
+rising-at (a ∷ l) r (suc i) (suc j) h k = rising-at l (r .1) i j (omega arith) (omega arith)
 
 pub in-map : (f : ℕ → ℕ) (r : ℕ) (l : List ℕ) → In r (map f l) → (b : ℕ) × In b l × (r ≡ f b)
 in-map f r [] m = absurd (in-nil m)

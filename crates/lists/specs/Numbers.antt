@@ -3,8 +3,8 @@ use mathlib.Core.Path.{_≡_, refl, sym, _∙_, ap, subst}
 use mathlib.Core.Bool.{Bool, true, false, cond, not, _&&_}
 use mathlib.Core.Logic.{_⊎_, inl, inr, ⊎-elim}
 use mathlib.Core.List.{List, [], _∷_, _++_, map, map-append, append-assoc, append-nil, List·Memᴰ as In, List·Memᴰ·head as here, List·Memᴰ·tail as there, List·Memᴰ·not-nil as in-nil, List·Memᴰ·append-cases as in-append, Memᴰ·append-left as in-left, Memᴰ·append-right as in-right, List·Memᴰ·eq-of-singleton as in-one}
-use Prim.Native.Nat.{ℕ, zero, suc, _+_, _≤_, _<_}
-use native.Mathlib.Nat.{add-suc, add-zero}
+use Prim.Native.Nat.{ℕ, zero, suc, _+_, _-_, _*_, _^_, _≤_, _<_}
+use native.Mathlib.Nat.{add-suc, add-zero, two-pow-succ, pow-le-pow-right}
 use native.Mathlib.Omega.{arith}
 use lib.ListN.{length, length-append}
 use lib.Dec.{ltb, eqb}
@@ -19,6 +19,12 @@ split-le m n f g = ⊎-elim (λ e. g (ltb-true n m e)) (λ e. f (ltb-false n m e
 
 pub split-lt {ℓ} : {A : Type ℓ} (m n : ℕ) → (m < n → A) → (m ≡ n → A) → (n < m → A) → A
 split-lt m n f g h = split-le n m (λ a. split-le m n (λ b. g (omega arith)) (λ b. h b)) f
+
+-- 2 ^ j is at most m, and m below 2 ^ (k + 1)
+pub power-le : (m k j : ℕ) → m < 2 ^ suc k → 2 ^ j ≤ m → j ≤ k
+power-le m k j h e = split-le j k
+    (λ l. l)
+    (λ l. let g : suc k ≤ j = omega arith in absurd (omega (arith, pow-le-pow-right {n = 2} (omega arith) {i = suc k} {j = j} g)))
 
 -- ---- every
 
@@ -73,6 +79,18 @@ pub rising-most : (l : List ℕ) → Rising l → ((i j : ℕ) → In i l → In
 rising-most [] r h = omega arith
 rising-most (k ∷ []) r h = omega arith
 rising-most (k ∷ j ∷ l) r h = absurd (h k j (here refl) (there (here refl)) (r .0 j (here refl)))
+
+-- a rising list of numbers below n, of any two of which the first is at least twice as far from n as the second
+pub rising-halves : (n c : ℕ) (l : List ℕ) → Rising (c ∷ l) → ((i : ℕ) → In i (c ∷ l) → i < n)
+    → ((i j : ℕ) → In i (c ∷ l) → In j (c ∷ l) → i < j → 2 * (n - j) ≤ n - i) → 2 ^ length l ≤ n - c
+rising-halves n c [] r h t = omega (arith, h c (here refl))
+rising-halves n c (d ∷ l) r h t =
+    omega (
+      arith,
+      two-pow-succ (length l),
+      rising-halves n d l (r .1) (λ i m. h i (there m)) (λ i j m k. t i j (there m) (there k)),
+      t c d (here refl) (there (here refl)) (r .0 d (here refl)),
+    )
 
 pub below-rising : (f : ℕ → Bool) (n : ℕ) → Rising (below f n)
 unfolding below
@@ -259,3 +277,19 @@ greatest-is f (suc n) m h p q =
     split-le m n
     (λ l. cond-false (f (suc n)) (suc n) (greatest f n) (q (suc n) (omega arith) (omega arith)) ∙ greatest-is f n m l p (λ k a b. q k a (omega arith)))
     (λ l. let e : m ≡ suc n = omega arith in cond-true (f (suc n)) (suc n) (greatest f n) (subst (λ (k : ℕ). f k ≡ true) e (p (omega arith))) ∙ sym e)
+
+-- ---- the last number that passes
+
+-- where one below n passes, there is a last one
+pub last-below : (f : ℕ → Bool) (n k : ℕ) → k < n → f k ≡ true
+    → (m : ℕ) × (k ≤ m) × (m < n) × (f m ≡ true) × ((j : ℕ) → m < j → j < n → f j ≡ false)
+last-below f zero k h e = absurd (omega arith)
+last-below f (suc n) k h e = go (f n) refl (λ l. last-below f n k l e)
+  where
+    go : (b : Bool) → f n ≡ b → (k < n → (m : ℕ) × (k ≤ m) × (m < n) × (f m ≡ true) × ((j : ℕ) → m < j → j < n → f j ≡ false))
+        → (m : ℕ) × (k ≤ m) × (m < suc n) × (f m ≡ true) × ((j : ℕ) → m < j → j < suc n → f j ≡ false)
+    go true q ih = (n, omega arith, omega arith, q, λ j a b. absurd (omega arith))
+    go false q ih =
+        let l : k < n = split-lt k n (λ l. l) (λ x. contra (subst (λ (i : ℕ). f i ≡ true) x e) q) (λ x. absurd (omega arith)) in
+        let (m, a, b, p, r) = ih l in
+        (m, a, omega arith, p, λ j x y. split-lt j n (λ z. r j x z) (λ z. subst (λ (i : ℕ). f i ≡ false) (sym z) q) (λ z. absurd (omega arith)))

@@ -1,13 +1,14 @@
 -- A part of a slice: n entries from o on. What it holds at an index, after a store inside it or outside it, and how it splits; and a part that is filled
 -- with the entries of another list, each where it stands there (`Filled`).
 use mathlib.Core.Path.{_≡_, refl, sym, _∙_, ap, ap₂, subst}
-use mathlib.Core.List.{List, [], _∷_, _++_}
+use mathlib.Core.List.{List, [], _∷_, _++_, append-assoc}
 use Prim.Native.Nat.{ℕ, zero, suc, _+_, _-_, _≤_, _<_}
 use native.Mathlib.Omega.{arith}
 use native.Mathlib.Nat.{zero-add, suc-add}
 use lib.ListN.{length, take, drop, getD, set, length-append, length-take, length-drop, length-set}
+use Rattle.definitions.specs.Words.{placed}
 use Rattle.lists.specs.Numbers.{split-le}
-use lib.Seq.{getD-take, getD-drop, getD-set-same, set-getD, drop-drop, drop-cons, take-add, drop-set-add, drop-set-lt, take-set-lt, take-set-le, take-take, take-nil, take-at, take-append-le, length-take-le, drop-append-add}
+use lib.Seq.{getD-take, getD-drop, getD-set-same, set-getD, drop-drop, drop-cons, take-add, drop-set-add, drop-set-lt, take-set-lt, take-set-le, take-take, take-nil, take-at, take-append-le, length-take-le, drop-append-add, drop-at}
 
 module _ {ℓ} {A : Type ℓ} where
   -- the n entries from o on
@@ -152,3 +153,14 @@ module _ {ℓ} {A : Type ℓ} where
 
         back : o + n + (b - (o + n)) ≡ b
         back = omega arith
+
+    -- a list at the front of what is lent stands where the part begins
+    pub lent-part : (l : List A) → z ≡ placed l (take n (drop o w)) → part o (length l) (take o w ++ (z ++ drop n (drop o w))) ≡ l
+    unfolding placed
+    lent-part l e =
+        let rest = drop (length l) (take n (drop o w)) in
+        part-front o (length l) (take o w ++ (z ++ drop n (drop o w))) l (rest ++ drop n (drop o w))
+        (drop-at (take o w) (z ++ drop n (drop o w)) o (length-take-le o w (omega arith))
+        ∙ ap (λ (x : List A). x ++ drop n (drop o w)) e
+        ∙ append-assoc l rest (drop n (drop o w)))
+        refl

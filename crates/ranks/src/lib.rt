@@ -1,7 +1,10 @@
 // Bytes, ranks and symbol numbers: all that depends on the order of samples.
 use definitions::Order;
 ghost use mathlib.Core.Path.{_≡_};
-ghost use Prim.Native.Nat.{_<_};
+ghost use mathlib.Core.List.{map};
+ghost use Prim.Native.Nat.{_≤_, _<_};
+ghost use lib.ListN.{length};
+ghost use Rattle.definitions.specs.Words.{placed};
 ghost use Rattle.definitions.specs.Table.{rankOf, byteOf, numberOfRank, rankOfNumber};
 
 // The order that the services speak of, and the one that they spoke of before request S-2.
@@ -16,6 +19,18 @@ pub fn rank_of(order: Order, byte: u8) -> u32
     match order {
         Order::Unsigned => byte as u32 + 1,
         Order::Signed => (byte as u32 + 128) % 256 + 1,
+    }
+}
+
+// Writes the ranks of samples at the front of a slice.
+pub fn write(order: Order, samples: &[u8], ranks: &mut [u32])
+    requires { ⌜ length (now samples) ≤ length (now ranks) ⌝ }
+    ensures { λ _. ⌜ now (ranks .exit) ≡ placed (map (rankOf order) (now (samples .entry))) (now (ranks .entry)) ⌝ }
+{
+    let mut i = 0;
+    while i < samples.len() {
+        ranks[i] = rank_of(order, samples[i]);
+        i += 1;
     }
 }
 

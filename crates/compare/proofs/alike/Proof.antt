@@ -2,8 +2,7 @@
 use mathlib.Core.Path.{_≡_, refl, sym, _∙_, ap}
 use Prim.Native.Nat.{ℕ, _+_, _-_, _*_, _≤_}
 use native.Mathlib.Omega.{arith}
-use lib.ListN.{drop, take}
-use borrow.Author.Needs.{needs}
+use lib.ListN.{drop, take, length-drop, length-take}
 use borrow.Author.Tests.{not-false}
 use Rattle.definitions.specs.Words.{lexlt}
 use Rattle.lists.specs.Strings.{same-eq}
@@ -27,11 +26,14 @@ loop-again c =
     let i = at .loop .i in
     let n = 8 * i + 8 - 8 * i in
     let next : 8 * i + n ≡ 8 * (i + 1) = omega arith in
-    let same = same-eq (take n (drop (8 * i) x)) (take n (drop (8 * i) y)) (sym (q .equal .ensures) ∙ not-false (q .equal .result) (c .if1 .left)) in
+    let same = same-eq (take n (drop (8 * i) x)) (take n (drop (8 * i) y)) (sym (q .equal-many .ensures) ∙ not-false (q .equal-many .result) (c .if1 .left)) in
     (omega arith, at .loop .inv .1 ∙ agree-block x y (8 * i) n (omega arith) (omega arith) same ∙ ap (λ (k : ℕ). lexlt (drop k x) (drop k y)) next)
+
+equal-many-requires : tie.Need-equal-many-requires Inv-loop μ-loop
+equal-many-requires c κs = simp (length-take, length-drop, length-take, length-drop) (omega arith)
 
 pub alike-spec : {M : Type 1} → statement M
 alike-spec =
     tie.close
     (tie.spec Inv-loop μ-loop (λ c. (omega arith, refl)) (λ c. omega arith) (λ c. omega arith) (λ c. omega arith) (λ c. omega arith) (λ c. omega arith) (λ c. omega arith) (λ c. omega arith) (λ c. omega arith) (λ c. omega arith) (λ c. omega arith)
-    (λ c κs. search needs) (λ c. c .before .before .before .before .before .loop .inv) (λ c. omega arith) (λ c. omega arith) loop-again (λ c. c .before .loop .inv))
+    equal-many-requires (λ c. c .before .before .before .before .before .loop .inv) (λ c. omega arith) (λ c. omega arith) loop-again (λ c. c .before .loop .inv))

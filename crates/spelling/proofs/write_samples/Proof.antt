@@ -1,14 +1,13 @@
 -- `write_samples` places the bytes of ranks at the front of a slice. The invariant: those of the ranks passed stand there.
 use mathlib.Core.Path.{_≡_, sym, _∙_, refl, ap}
-use mathlib.Core.List.{List, map}
+use mathlib.Core.List.{map}
 use Prim.Native.Nat.{ℕ, _≤_, _-_}
 use native.Mathlib.Omega.{arith}
 use lib.ListN.{length, take, set, length-set}
-use lib.Seq.{take-length}
 use Rattle.definitions.specs.Words.{placed}
 use Rattle.definitions.specs.Table.{byteOf}
 use Rattle.definitions.specs.Services.{sampleOrder}
-use Rattle.lists.specs.Lists.{placed-none, mapped-more}
+use Rattle.lists.specs.Lists.{placed-none, mapped-more, mapped-all}
 use Rattle.spelling.proofs.write_samples.Statement.{statement}
 use Rattle.spelling.proofs.write_samples.Tie as tie
 
@@ -40,10 +39,7 @@ returns : tie.Need-returns Inv-loop μ-loop
 returns c =
     let at = c .before in
     let a = at .before .before .before .args in
-    let e : at .loop .i ≡ length (a .ranks .now) = omega arith in
-    at .loop .inv .2
-    ∙ ap (λ (n : ℕ). placed (map (byteOf sampleOrder) (take n (a .ranks .now))) (a .result .now)) e
-    ∙ ap (λ (l : List ℕ). placed (map (byteOf sampleOrder) l) (a .result .now)) (take-length (a .ranks .now))
+    mapped-all (byteOf sampleOrder) (a .ranks .now) (a .result .now) (at .loop .result) (at .loop .i) (omega arith) (at .loop .inv .2)
 
 pub write-samples-spec : {M : Type 1} → statement M
 write-samples-spec =
