@@ -82,7 +82,7 @@ pub extern "C" fn sirbolta_locate(
     replied_search(index::locate(table, pattern, work, result))
 }
 
-// Lists the live cuts of a pattern: `index::live_cuts`.
+// Lists the live cuts of a pattern that a search tries: `index::live_cuts`.
 #[no_mangle]
 pub extern "C" fn sirbolta_live_cuts(pattern: &[u8], result: &mut [u32]) -> Reply
     ensures { λ r. ⌜ Serves (cutsService sampleOrder (now (pattern .entry)) (now (result .entry))) (Replies r) (now (result .exit) ∷ []) ⌝ }

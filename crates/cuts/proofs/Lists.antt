@@ -1,43 +1,41 @@
--- The live cuts passed so far: how many there are, that there is room for each, and what a slice holds once they are written.
--- At the scan's end they are all of the pattern's (`all-passed`).
-use mathlib.Core.Path.{_≡_, refl, sym, _∙_, ap}
-use mathlib.Core.Bool.{Bool, true, false}
-use mathlib.Core.List.{List, [], _++_, map}
+-- The listed cuts passed so far: that there is room for those of a run more, and what a slice holds once they are written. At the scan's end they are
+-- all of the pattern's (`all-passed`).
+use mathlib.Core.Path.{_≡_, sym, _∙_, ap, subst}
+use mathlib.Core.Bool.{Bool}
+use mathlib.Core.List.{List, [], _∷_, _++_, map, append-assoc, append-nil}
 use Prim.Native.Nat.{ℕ, _+_, _-_, _≤_, _<_}
 use native.Mathlib.Omega.{arith}
 use lib.ListN.{length, set, length-append, length-map}
-use lib.Dec.{leb, eqb}
-use borrow.Author.Tests.{leb-true}
 use Rattle.definitions.specs.declared.Order.{Order}
 use Rattle.definitions.specs.Words.{below, placed}
 use Rattle.definitions.specs.Table.{rankOf}
-use Rattle.definitions.specs.Occurrences.{isLive, liveCuts, patternCuts}
-use Rattle.lists.specs.Bools.{and-left}
-use Rattle.lists.specs.Numbers.{below-append, below-length}
-use Rattle.lists.specs.Lists.{placed-none, placed-more}
-use Rattle.runs.specs.Runs.{atEnd, Reached, Moved}
-use Rattle.runs.proofs.Scan.{none-before, scan-done}
-use Rattle.runs.proofs.Samples.{samples-left, moved-one, moved-none}
+use Rattle.definitions.specs.Occurrences.{isListed, listedCuts, patternCuts}
+use Rattle.lists.specs.Numbers.{below-append, power-le}
+use Rattle.lists.specs.Lists.{placed-more}
+use Rattle.lyndon.specs.Listed.{Largest, listed-bound}
+use Rattle.runs.specs.Runs.{Stopped, Reached, Copies, runCuts}
+use Rattle.runs.proofs.Scanning.{none-before, scan-done}
+use Rattle.runs.proofs.Samples.{samples-left}
+use Rattle.cuts.specs.Appending.{Appended}
 
--- the live cuts below a place
+-- the listed cuts below a place
 abbrev pub passed : Order → List ℕ → ℕ → List ℕ
-passed o p start = below (isLive (map (rankOf o) p)) start
+passed o p start = below (isListed (map (rankOf o) p)) start
 
-pub all-passed : (o : Order) (p : List ℕ) (start back end : ℕ) → Reached (map (rankOf o) p) start back end → length p ≤ start
-    → passed o p start ≡ patternCuts o p
+pub none-passed : (o : Order) (p : List ℕ) → passed o p 1 ≡ []
+none-passed o p = none-before (map (rankOf o) p)
+
+pub all-passed : (o : Order) (p : List ℕ) (start : ℕ) → Reached (map (rankOf o) p) start → length p ≤ start → passed o p start ≡ patternCuts o p
 unfolding patternCuts
-all-passed o p start back end r h = scan-done (map (rankOf o) p) start back end r (omega (arith, length-map p (rankOf o)))
-
-pub passed-length : (o : Order) (p : List ℕ) (start : ℕ) → length (passed o p start) ≤ start
-passed-length o p start = below-length (isLive (map (rankOf o) p)) start
+all-passed o p start r h = scan-done (map (rankOf o) p) start r (omega (arith, length-map p (rankOf o)))
 
 -- the pattern has at least those
-passed-most : (o : Order) (p : List ℕ) (start : ℕ) → start ≤ length p → length (passed o p start) ≤ length (patternCuts o p)
-unfolding patternCuts liveCuts
+pub passed-most : (o : Order) (p : List ℕ) (start : ℕ) → start ≤ length p → length (passed o p start) ≤ length (patternCuts o p)
+unfolding patternCuts listedCuts
 passed-most o p start h = omega (arith, simp length-append at (ap length (split (length p - start) whole)))
   where
     f : ℕ → Bool
-    f = isLive (map (rankOf o) p)
+    f = isListed (map (rankOf o) p)
 
     whole : start + (length p - start) ≡ length (map (rankOf o) p)
     whole = omega (arith, length-map p (rankOf o))
@@ -45,60 +43,55 @@ passed-most o p start h = omega (arith, simp length-append at (ap length (split 
     split : (k : ℕ) → start + k ≡ length (map (rankOf o) p) → below f (length (map (rankOf o) p)) ≡ below f start ++ map (λ (i : ℕ). start + i) (below (λ i. f (start + i)) k)
     split k e = ap (below f) (sym e) ∙ below-append f start k
 
--- ---- a step more
+-- ---- how long the list is
 
-module _ (o : Order) (p : List ℕ) (start back end start′ back′ end′ : ℕ) (m : Moved (map (rankOf o) p) start back end start′ back′ end′) where
-  pub counted-one : atEnd start back end (length p) ≡ true → (n : ℕ) → n ≡ length (passed o p start) → n + 1 ≡ length (passed o p start′)
-  counted-one e n q = omega (arith, simp length-append at (ap length (moved-one o p start back end start′ back′ end′ m e)))
+-- k + 1 words are enough, and they are at most 11
+pub most-cuts : (o : Order) (p : List ℕ) (k : ℕ) → Largest (length p) k → length (patternCuts o p) ≤ k + 1
+unfolding patternCuts
+most-cuts o p k h = omega (arith, listed-bound (map (rankOf o) p) k (rw (length-map p (rankOf o)) h))
 
-  pub counted-none : atEnd start back end (length p) ≡ false → (n : ℕ) → n ≡ length (passed o p start) → n ≡ length (passed o p start′)
-  counted-none e n q = q ∙ ap length (sym (moved-none o p start back end start′ back′ end′ m e))
+pub eleven : (m k : ℕ) → m ≤ 2047 → Largest m k → k + 1 ≤ 11
+eleven m k h l = omega (arith, power-le 2047 10 k (omega arith) (omega (arith, l .0)))
 
--- ---- writing them
+-- ---- writing
 
--- a live cut has room
-pub room : (o : Order) (p : List ℕ) (start back end : ℕ) → Reached (map (rankOf o) p) start back end → start < length p
-    → (w : List ℕ) → length (patternCuts o p) ≤ length w → atEnd start back end (length p) ≡ true → length (passed o p start) < length w
-unfolding atEnd
-room o p start back end r h w k e =
-    omega (
-      arith,
-      simp length-append at (ap length (moved-one o p start back end (start + (end - back)) back end m e)),
-      passed-most o p (start + (end - back)) (omega (arith, m .reached .inside, length-map p (rankOf o))),
-    )
-  where
-    m : Moved (map (rankOf o) p) start back end (start + (end - back)) back end
-    m = samples-left o p start back end r h (leb-true start back (and-left (leb start back) (eqb end (length p)) e))
+pub appended-none : (n : ℕ) (w : List ℕ) → Appended [] n n w w
+appended-none n w front old e q h = (e ∙ ap (λ (x : List ℕ). placed x old) (sym (append-nil front)), q ∙ ap length (sym (append-nil front)))
 
--- the slice with the cuts passed in a step
-pub written : (o : Order) (p : List ℕ) (start back end start′ back′ end′ : ℕ) → Reached (map (rankOf o) p) start back end → start < length p
-    → Moved (map (rankOf o) p) start back end start′ back′ end′ → (w : List ℕ) → length (patternCuts o p) ≤ length w
-    → (live : Bool) → live ≡ atEnd start back end (length p) → (v v′ : List ℕ) (n n′ : ℕ)
-    → n ≡ length (passed o p start) → v ≡ placed (passed o p start) w
-    → (live ≡ true → (n′ ≡ n + 1) × (v′ ≡ set v n start)) → (live ≡ false → (n′ ≡ n) × (v′ ≡ v))
-    → (n′ ≡ length (passed o p start′)) × (v′ ≡ placed (passed o p start′) w)
-written o p start back end start′ back′ end′ r h m w k true l v v′ n n′ q e one none =
-    let (x, y) = one refl in (
-      x ∙ counted-one o p start back end start′ back′ end′ m (sym l) n q,
-      y
-          ∙ ap (λ (x : List ℕ). set x n start) e
-          ∙ ap (λ (i : ℕ). set (placed (passed o p start) w) i start) q
-          ∙ sym (placed-more (passed o p start) w start (room o p start back end r h w k (sym l)))
-          ∙ ap (λ (x : List ℕ). placed x w) (sym (moved-one o p start back end start′ back′ end′ m (sym l))),
-    )
-written o p start back end start′ back′ end′ r h m w k false l v v′ n n′ q e one none =
-    let (x, y) = none refl in (
-      x ∙ counted-none o p start back end start′ back′ end′ m (sym l) n q,
-      y ∙ e ∙ ap (λ (x : List ℕ). placed x w) (sym (moved-none o p start back end start′ back′ end′ m (sym l))),
-    )
+pub appended-one : (n c : ℕ) (w : List ℕ) → Appended (c ∷ []) n (n + 1) w (set w n c)
+appended-one n c w front old e q h = (
+  ap (λ (x : List ℕ). set x n c) e ∙ ap (λ (i : ℕ). set (placed front old) i c) q ∙ sym (placed-more front old c (omega arith)),
+  omega (arith, length-append front (c ∷ [])),
+)
 
--- ---- none yet
+pub appended-both : (l m : List ℕ) (n i j : ℕ) (w v z : List ℕ) → Appended l n i w v → Appended m i j v z → Appended (l ++ m) n j w z
+appended-both l m n i j w v z a b front old e q h =
+    let size = length-append l m in
+    let (f, g) = a front old e q (omega arith) in
+    let (f′, g′) = b (front ++ l) old f g (omega (arith, length-append front l)) in
+    (f′ ∙ ap (λ (x : List ℕ). placed x old) (append-assoc front l m), g′ ∙ ap length (append-assoc front l m))
 
-pub none-passed : (o : Order) (p : List ℕ) (start : ℕ) → start ≡ 1 → passed o p start ≡ []
-none-passed o p start e = ap (passed o p) e ∙ none-before (map (rankOf o) p)
+-- ---- a run more
 
-pub counted-start : (o : Order) (p : List ℕ) (start : ℕ) → start ≡ 1 → 0 ≡ length (passed o p start)
-counted-start o p start e = ap length (sym (none-passed o p start e))
+module _ (o : Order) (p : List ℕ) (start rs back end place : ℕ) (same : rs ≡ start) (reached : Reached (map (rankOf o) p) start)
+    (stopped : Stopped (map (rankOf o) p) start back end) (copies : Copies rs back end place) (low : back < place) (high : place ≤ end) where
+  -- what is passed then
+  further : Reached (map (rankOf o) p) place × (passed o p place ≡ passed o p start ++ runCuts rs back end place (length p))
+  further =
+      let (a, b) = samples-left o p start back end place reached stopped (subst (λ (i : ℕ). Copies i back end place) same copies) low high in
+      (a, b ∙ ap (λ (i : ℕ). passed o p start ++ runCuts i back end place (length p)) (sym same))
 
-pub written-start : (o : Order) (p : List ℕ) (start : ℕ) → start ≡ 1 → (w : List ℕ) → w ≡ placed (passed o p start) w
-written-start o p start e w = sym (ap (λ (x : List ℕ). placed x w) (none-passed o p start e) ∙ placed-none w)
+  pub run-inside : end ≤ length p
+  run-inside = omega (arith, stopped .running .inside, length-map p (rankOf o))
+
+  -- there is room for its cuts
+  pub run-room : (n m : ℕ) → n ≡ length (passed o p start) → length (patternCuts o p) ≤ m → n + length (runCuts rs back end place (length p)) ≤ m
+  run-room n m e h =
+      omega (arith, run-inside, passed-most o p place (omega (arith, run-inside)), simp length-append at (ap length (further .1)))
+
+  pub run-written : (n r : ℕ) (old w v : List ℕ) → length (patternCuts o p) ≤ length old → n ≡ length (passed o p start) → w ≡ placed (passed o p start) old
+      → Appended (runCuts rs back end place (length p)) n r w v
+      → Reached (map (rankOf o) p) place × (r ≡ length (passed o p place)) × (v ≡ placed (passed o p place) old)
+  run-written n r old w v h e f a =
+      let (x, y) = a (passed o p start) old f e (omega (arith, run-room n (length old) e h)) in
+      (further .0, y ∙ ap length (sym (further .1)), x ∙ ap (λ (l : List ℕ). placed l old) (sym (further .1)))

@@ -1,85 +1,77 @@
-// The live cuts of a pattern: how many there are, their list, and a flag for each cut. They are the starts of whole copies in the runs
-// that reach the pattern's end.
+// The listed cuts of a pattern, written to a list of k + 1 words, where k is the largest whole number for which 2 to the power k is at most the pattern's length.
 use definitions::Order;
-use runs::at_end;
-use runs::first;
-use runs::next;
+use runs::Run;
+use runs::behind;
+use runs::scan;
+use slices::put;
 ghost use mathlib.Core.Path.{_≡_};
-ghost use mathlib.Core.Bool.{true, false};
+ghost use mathlib.Core.Bool.{cond, _&&_};
+ghost use mathlib.Core.List.{[], _∷_};
 ghost use Prim.Native.Nat.{_+_, _≤_, _<_};
-ghost use lib.ListN.{length, set};
+ghost use lib.ListN.{length};
+ghost use lib.Dec.{ltb, eqb};
 ghost use Rattle.definitions.specs.Words.{placed};
 ghost use Rattle.definitions.specs.Occurrences.{patternCuts};
-ghost use Rattle.cuts.specs.Flags.{patternFlags, raised};
+ghost use Rattle.lyndon.specs.Listed.{Largest};
+ghost use Rattle.runs.specs.Runs.{runCuts};
+ghost use Rattle.cuts.specs.Appending.{Appended};
 
-// The number of live cuts.
-pub fn count(order: Order, pattern: &[u8]) -> usize
-    ensures { λ n. ⌜ n ≡ length (patternCuts order (now (pattern .entry))) ⌝ }
+// The largest whole k for which 2 to the power k is at most m.
+pub fn floor_log2(m: usize) -> usize
+    requires { ⌜ (0 < m) × (m ≤ 2047) ⌝ }
+    ensures { λ k. ⌜ Largest m k ⌝ }
 {
-    let mut run = first();
-    let mut n: usize = 0;
-    while run.start < pattern.len() {
-        if at_end(run, pattern.len()) {
-            n += 1;
-        }
-        run = next(order, pattern, run);
+    (31 - u32::leading_zeros(m as u32)) as usize
+}
+
+// Writes the listed cuts at the front of a slice. Answers how many there are.
+pub fn list(order: Order, pattern: &[u8], cuts: &mut [u32]) -> usize
+    requires { ⌜ (length (patternCuts order (now pattern)) ≤ length (now cuts)) × (length (now pattern) ≤ 2047) ⌝ }
+    ensures { λ n. ⌜ (n ≡ length (patternCuts order (now (pattern .entry)))) × (now (cuts .exit) ≡ placed (patternCuts order (now (pattern .entry))) (now (cuts .entry))) ⌝ }
+{
+    let m = pattern.len();
+    let mut start = 1;
+    let mut n = 0;
+    while start < m {
+        let run = scan(order, pattern, start);
+        let next = behind(run);
+        n = append_run(cuts, n, run, next, m);
+        start = next;
     }
     n
 }
 
-// Writes the live cuts at the front of a slice.
-pub fn write(order: Order, pattern: &[u8], result: &mut [u32])
-    requires { ⌜ (length (patternCuts order (now pattern)) ≤ length (now result)) × (length (now pattern) ≤ 2047) ⌝ }
-    ensures { λ _. ⌜ now (result .exit) ≡ placed (patternCuts order (now (pattern .entry))) (now (result .entry)) ⌝ }
+// Writes the listed cuts of a run of a pattern of m samples behind the n that stand at the front; `place` is behind its whole copies. Answers how
+// many stand there then.
+fn append_run(cuts: &mut [u32], n: usize, run: Run, place: usize, m: usize) -> usize
+    requires { ⌜ (n + length (runCuts (run .start) (run .back) (run .end) place m) ≤ length (now cuts)) × (run .start < 2047) × (run .back < 2047) ⌝ }
+    ensures { λ r. ⌜ Appended (runCuts (run .start) (run .back) (run .end) place m) n r (now (cuts .entry)) (now (cuts .exit)) ⌝ }
 {
-    let mut run = first();
-    let mut n: usize = 0;
-    while run.start < pattern.len() {
-        n = append(result, n, run.start, at_end(run, pattern.len()));
-        run = next(order, pattern, run);
+    if run.end < m {
+        return n;
     }
+    put(cuts, n, run.start as u32);
+    append(cuts, n + 1, run.back, is_last_listed(run, place, m))
 }
 
-// Writes a flag for each cut at the front of a slice, that of cut 0 first: 1 if the cut is live, else 0.
-pub fn flag(order: Order, pattern: &[u8], flags: &mut [u32])
-    requires { ⌜ length (now pattern) ≤ length (now flags) ⌝ }
-    ensures { λ _. ⌜ now (flags .exit) ≡ placed (patternFlags order (now (pattern .entry))) (now (flags .entry)) ⌝ }
+// Whether the start of the last copy of a run that reaches the end of m samples is listed too: it is not the first copy, and nothing follows it.
+fn is_last_listed(run: Run, place: usize, m: usize) -> bool
+    ensures { λ r. ⌜ r ≡ ltb (run .start) (run .back) && eqb place m ⌝ }
 {
-    let m = pattern.len();
-    slices::clear(&mut flags[0..m]);
-    raise(order, pattern, flags);
+    if run.start < run.back {
+        return place == m;
+    }
+    false
 }
 
-// Writes a cut behind the n that stand at the front, if it is live. Answers how many stand there then.
-fn append(result: &mut [u32], n: usize, cut: usize, live: bool) -> usize
-    requires { ⌜ (live ≡ true → n < length (now result)) × (cut < 2047) ⌝ }
-    ensures { λ r. ⌜ (live ≡ true → (r ≡ n + 1) × (now (result .exit) ≡ set (now (result .entry)) n cut)) × (live ≡ false → (r ≡ n) × (now (result .exit) ≡ now (result .entry))) ⌝ }
+// Writes a cut behind the n that stand at the front, if it is listed. Answers how many stand there then.
+fn append(cuts: &mut [u32], n: usize, cut: usize, listed: bool) -> usize
+    requires { ⌜ (n + length (cond listed (cut ∷ []) []) ≤ length (now cuts)) × (cut < 2047) ⌝ }
+    ensures { λ r. ⌜ Appended (cond listed (cut ∷ []) []) n r (now (cuts .entry)) (now (cuts .exit)) ⌝ }
 {
-    if live {
-        result[n] = cut as u32;
+    if listed {
+        cuts[n] = cut as u32;
         return n + 1;
     }
     n
-}
-
-// Sets the flags of the live cuts to 1.
-fn raise(order: Order, pattern: &[u8], flags: &mut [u32])
-    requires { ⌜ length (now pattern) ≤ length (now flags) ⌝ }
-    ensures { λ _. ⌜ now (flags .exit) ≡ raised (patternCuts order (now (pattern .entry))) (now (flags .entry)) ⌝ }
-{
-    let mut run = first();
-    while run.start < pattern.len() {
-        raise_one(flags, run.start, at_end(run, pattern.len()));
-        run = next(order, pattern, run);
-    }
-}
-
-// Sets the flag of a cut to 1 if it is live.
-fn raise_one(flags: &mut [u32], cut: usize, live: bool)
-    requires { ⌜ cut < length (now flags) ⌝ }
-    ensures { λ _. ⌜ (live ≡ true → now (flags .exit) ≡ set (now (flags .entry)) cut 1) × (live ≡ false → now (flags .exit) ≡ now (flags .entry)) ⌝ }
-{
-    if live {
-        flags[cut] = 1;
-    }
 }

@@ -1,12 +1,12 @@
--- Live cuts of a pattern, its occurrences, and those at the join of a pair rule (document 01, "Live cuts" and "Finds and joins").
--- A pattern is document 01's motif, an occurrence its find; `live cut` is document 01's own term.
-use Prim.Native.Nat.{ℕ, suc, _+_}
-use mathlib.Core.Bool.{Bool, false, _&&_, _||_}
+-- Live cuts of a pattern, its occurrences, and those at the join of a pair rule (document 01, "Live cuts" and "Finds and joins"); which live cuts
+-- are listed (document 02, S-3). A pattern is document 01's motif, an occurrence its find; `live cut` is document 01's own term.
+use Prim.Native.Nat.{ℕ, suc, _+_, _-_}
+use mathlib.Core.Bool.{Bool, false, not, _&&_, _||_}
 use mathlib.Core.List.{List, [], _∷_, _++_, map}
-use lib.ListN.{length, drop}
+use lib.ListN.{length, take, drop}
 use lib.Dec.{ltb, eqb}
 use Rattle.definitions.specs.declared.Order.{Order}
-use Rattle.definitions.specs.Words.{every, below, begins, lexlt}
+use Rattle.definitions.specs.Words.{every, below, begins, lexlt, lyndon}
 use Rattle.definitions.specs.Table.{rankOf}
 
 -- ---- live cuts
@@ -23,9 +23,25 @@ isLive p c = ltb 0 c && every (λ d. eqb d 0 || notGreaterAtDifference (drop c p
 unfoldable pub liveCuts : List ℕ → List ℕ
 liveCuts p = below (isLive p) (length p)
 
--- the live cuts of a pattern of samples
+-- ---- the live cuts that are listed
+
+-- the stretch of p from d to c is a Lyndon word, the tail from c on begins with it, and the tail is longer than it
+unfoldable pub wordAgain : List ℕ → ℕ → ℕ → Bool
+wordAgain p d c =
+    let w = take (c - d) (drop d p) in
+    lyndon w && (begins w (drop c p) && ltb (length w) (length (drop c p)))
+
+-- the cut c is listed: it is live, and this is so of no earlier cut d, from 1 on
+unfoldable pub isListed : List ℕ → ℕ → Bool
+isListed p c = isLive p c && every (λ d. eqb d 0 || not (wordAgain p d c)) c
+
+-- the listed cuts of a string, rising, each once
+unfoldable pub listedCuts : List ℕ → List ℕ
+listedCuts p = below (isListed p) (length p)
+
+-- the listed cuts of a pattern of samples
 unfoldable pub patternCuts : Order → List ℕ → List ℕ
-patternCuts o p = liveCuts (map (rankOf o) p)
+patternCuts o p = listedCuts (map (rankOf o) p)
 
 -- ---- occurrences
 

@@ -1,6 +1,6 @@
 -- The samples of document 01 that are marked P, its live cuts, its two examples of a cut at a join, its table of `abab` for chair 40, tables that it says are
--- foreign, some of its edges as outcomes of services, and what its program prints; the arrays of S-1; and drives whose tables, cuts and lengths the order of S-2 changes: by
--- computation, under one claim.
+-- foreign, some of its edges as outcomes of services, and what its program prints; the arrays of S-1; drives whose tables, cuts and lengths the order of S-2 changes; and patterns
+-- with live cuts that S-3 does not list: by computation, under one claim.
 use Prim.Native.Nat.{ℕ, _+_, _-_}
 use mathlib.Core.Path.{_≡_, refl}
 use mathlib.Core.Bool.{Bool, true, false, cond, _&&_}
@@ -17,7 +17,7 @@ use Rattle.definitions.specs.declared.SearchReply.{SearchReply}
 use Rattle.definitions.specs.Words.{every, below, least, placed, same, begins, lexlt, lyndon, cutOf, greatest, lyndonLength, lyndonArray}
 use Rattle.definitions.specs.Grammar.{leftOf, rightOf, word, split, lyndonTree, indexOf, meet, visit, order, ruleOf, rulesOf}
 use Rattle.definitions.specs.Table.{rankOf, byteOf, numberOfRank, rankOfNumber, marked, wordOf, kindOf, numberOf, ruleWords, words, tableOf, badFirst, badSecond, badWord, stringOf, strings, ruleString, isPair, leftHalf, rightHalf, spelled, textOf, chairOf, isDrive, isChair, isTable}
-use Rattle.definitions.specs.Occurrences.{occurrences, notGreaterAtDifference, isLive, liveCuts, patternCuts, straddles, straddling, cutIn, cutAt}
+use Rattle.definitions.specs.Occurrences.{occurrences, notGreaterAtDifference, isLive, liveCuts, wordAgain, isListed, listedCuts, patternCuts, straddles, straddling, cutIn, cutAt}
 use Rattle.definitions.specs.Services.{Numbers, Outcome, numbersOf, readOutcome, searchOutcome, Service, firstMet, outcome, outcomeOf, cleared, slicesAfter, sampleOrder, formerOrder, tableChecks, patternChecks, buildService, checkService, readService, extractService, countService, locateService, cutsService, lyndonLengthService, lyndonArrayService, convertOrderService}
 use Rattle.definitions.specs.Replies.{replyNumbers, searchNumbers}
 use Rattle.definitions.specs.Programs.{digits, digitsUpTo, digitCount, decimal, line, named, decimalLines, refusedLine, printed, motifOf, driveOf, foundLines, motifOutput}
@@ -77,9 +77,10 @@ pub data Sample : Type 0 where
   rules : List ℕ → ℕ → Sample
   -- in the drive the pattern has just these occurrences
   finds : List ℕ → List ℕ → List ℕ → Sample
-  -- the pattern has just these live cuts
+  -- the pattern has just these live cuts, or just these listed ones
+  live : List ℕ → List ℕ → Sample
   cuts : List ℕ → List ℕ → Sample
-  -- in this pair rule of the drive's table the pattern straddles the join at just these places, and is cut there at live cuts
+  -- in this pair rule of the drive's table the pattern straddles the join at just these places, and is cut there at listed cuts
   joins : List ℕ → ℕ → List ℕ → List ℕ → Sample
   -- the Lyndon array of the drive
   lengths : List ℕ → List ℕ → Sample
@@ -130,6 +131,7 @@ holds (rules text n) =
     && (eqb (least (badWord t) (length t)) (length t)
     && (isTable sampleOrder t && (same (textOf sampleOrder t) text && eqb (chairOf t) 40)))
 holds (finds text p places) = same (occurrences p text) places
+holds (live p places) = same (liveCuts (map (rankOf sampleOrder) p)) places
 holds (cuts p places) = same (patternCuts sampleOrder p) places
 holds (joins text r p places) =
     let t = tableOf sampleOrder text 40 in
@@ -182,6 +184,16 @@ samples =
     ∷ cuts (97 ∷ 200 ∷ 100 ∷ []) (1 ∷ [])
     ∷ cuts (0 ∷ 127 ∷ 128 ∷ []) (2 ∷ [])
     ∷ cuts (0 ∷ 255 ∷ 1 ∷ []) (1 ∷ [])
+    ∷ live abab (2 ∷ [])
+    ∷ live (a ∷ a ∷ b ∷ a ∷ []) (1 ∷ 3 ∷ [])
+    ∷ live (a ∷ a ∷ a ∷ []) (1 ∷ 2 ∷ [])
+    ∷ live (a ∷ []) []
+    ∷ live (a ∷ a ∷ a ∷ a ∷ []) (1 ∷ 2 ∷ 3 ∷ [])
+    ∷ cuts (a ∷ a ∷ a ∷ a ∷ []) (1 ∷ 3 ∷ [])
+    ∷ live (120 ∷ abab ++ abab) (1 ∷ 3 ∷ 5 ∷ 7 ∷ [])
+    ∷ cuts (120 ∷ abab ++ abab) (1 ∷ 7 ∷ [])
+    ∷ live (120 ∷ abab ++ a ∷ []) (1 ∷ 3 ∷ 5 ∷ [])
+    ∷ cuts (120 ∷ abab ++ a ∷ []) (1 ∷ 5 ∷ [])
     ∷ ranks (128 ∷ 255 ∷ 0 ∷ 1 ∷ 127 ∷ []) (1 ∷ 128 ∷ 129 ∷ 130 ∷ 256 ∷ [])
     ∷ rules (255 ∷ 0 ∷ []) 5
     ∷ joins (a ∷ a ∷ b ∷ b ∷ []) 5 (a ∷ a ∷ b ∷ []) (0 ∷ [])
@@ -242,6 +254,7 @@ samples =
     ∷ ends (cutsService sampleOrder [] []) 2 0 0 0
     ∷ ends (locateService sampleOrder (tableOf sampleOrder (a ∷ a ∷ a ∷ a ∷ []) 0) (a ∷ a ∷ []) room (replicate 2 7)) 9 3 0 0
     ∷ ends (cutsService sampleOrder (a ∷ a ∷ b ∷ a ∷ []) (replicate 1 7)) 9 2 0 0
+    ∷ ends (cutsService sampleOrder (a ∷ a ∷ a ∷ a ∷ []) (replicate 1 7)) 9 2 0 0
     ∷ ends (lyndonLengthService sampleOrder ofAbab 2 room) 0 0 2 0
     ∷ ends (lyndonLengthService sampleOrder ofAbab 3 room) 0 0 1 0
     ∷ ends (lyndonLengthService sampleOrder ofAbab 4 room) 8 0 0 0
@@ -269,6 +282,7 @@ samples =
     ∷ leaves (locateService sampleOrder ofAbab (a ∷ b ∷ []) room (replicate 1 7)) (7 ∷ [])
     ∷ leaves (locateService sampleOrder ofAbab (a ∷ b ∷ []) room (replicate 3 7)) (0 ∷ 2 ∷ 7 ∷ [])
     ∷ leaves (cutsService sampleOrder (a ∷ a ∷ b ∷ a ∷ []) (replicate 3 7)) (1 ∷ 3 ∷ 7 ∷ [])
+    ∷ leaves (cutsService sampleOrder (a ∷ a ∷ a ∷ a ∷ []) (replicate 3 7)) (1 ∷ 3 ∷ 7 ∷ [])
     ∷ clearing (room ++ 7 ∷ []) (0 ∷ 0 ∷ 7 ∷ [])
     ∷ clears (checkService sampleOrder ofAbab room) true
     ∷ clears (checkService sampleOrder twoRules room) true
@@ -325,5 +339,5 @@ samples =
 
 -- every sample holds
 pub samples-hold : all samples ≡ true
-unfolding edges holds all samples four parts numbersOf readOutcome searchOutcome replyNumbers searchNumbers every below least placed same begins lexlt lyndon cutOf greatest lyndonLength lyndonArray leftOf rightOf word split lyndonTree indexOf meet visit order ruleOf rulesOf rankOf byteOf numberOfRank rankOfNumber marked wordOf kindOf numberOf ruleWords words tableOf badFirst badSecond badWord stringOf strings ruleString isPair leftHalf rightHalf spelled textOf chairOf isDrive isChair isTable occurrences notGreaterAtDifference isLive liveCuts patternCuts straddles straddling cutIn cutAt firstMet outcome outcomeOf cleared slicesAfter last tableChecks patternChecks buildService checkService readService extractService countService locateService cutsService lyndonLengthService lyndonArrayService convertOrderService digits digitsUpTo digitCount decimal line named decimalLines refusedLine printed motifOf driveOf foundLines motifOutput
+unfolding edges holds all samples four parts numbersOf readOutcome searchOutcome replyNumbers searchNumbers every below least placed same begins lexlt lyndon cutOf greatest lyndonLength lyndonArray leftOf rightOf word split lyndonTree indexOf meet visit order ruleOf rulesOf rankOf byteOf numberOfRank rankOfNumber marked wordOf kindOf numberOf ruleWords words tableOf badFirst badSecond badWord stringOf strings ruleString isPair leftHalf rightHalf spelled textOf chairOf isDrive isChair isTable occurrences notGreaterAtDifference isLive liveCuts wordAgain isListed listedCuts patternCuts straddles straddling cutIn cutAt firstMet outcome outcomeOf cleared slicesAfter last tableChecks patternChecks buildService checkService readService extractService countService locateService cutsService lyndonLengthService lyndonArrayService convertOrderService digits digitsUpTo digitCount decimal line named decimalLines refusedLine printed motifOf driveOf foundLines motifOutput
 samples-hold = refl

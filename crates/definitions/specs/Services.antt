@@ -200,7 +200,7 @@ countService o t p work = working work (gives (patternChecks p ++ tableChecks o 
 unfoldable pub locateService : Order → List ℕ → List ℕ → List ℕ → List ℕ → Service
 locateService o t p work result = working work (writes (patternChecks p ++ tableChecks o t (length work)) (occurrences p (textOf o t)) 0 result)
 
--- list the live cuts of a pattern
+-- list the live cuts of a pattern, but those that are dropped
 unfoldable pub cutsService : Order → List ℕ → List ℕ → Service
 cutsService o p result = writes (patternChecks p) (patternCuts o p) 0 result
 

@@ -1,5 +1,5 @@
 // Searching the text that is loaded, in the order that the services speak of: its occurrences of a pattern counted, or written to the front of the result slice
-// or refused by 9; and the live cuts of a pattern, written or refused likewise.
+// or refused by 9; and the listed cuts of a pattern, written or refused likewise.
 use definitions::Answer;
 use ranks::SAMPLE_ORDER;
 use results::result_fits;
@@ -30,16 +30,20 @@ pub fn locate_loaded(pattern: &[u8], rules: usize, work: &mut [u32], result: &mu
     deliver_found(n, rules, work, result)
 }
 
-// Lists the live cuts of a pattern, or refuses by 9.
+// Lists the cuts of a pattern, or refuses by 9. The pattern is scanned once, into a list of k + 1 words, where k is the largest whole
+// number for which 2 to the power k is at most its length.
 pub fn deliver_cuts(pattern: &[u8], result: &mut [u32]) -> Answer
-    requires { ⌜ length (now pattern) ≤ 2047 ⌝ }
+    requires { ⌜ (0 < length (now pattern)) × (length (now pattern) ≤ 2047) ⌝ }
     ensures { λ r. ⌜ Serves (writes [] (patternCuts sampleOrder (now (pattern .entry))) 0 (now (result .entry))) (Answers r) (now (result .exit) ∷ []) ⌝ }
 {
-    let a = result_fits(cuts::count(SAMPLE_ORDER, pattern), result.len());
+    let mut list: [u32; 11] = [0; 11];
+    let k = cuts::floor_log2(pattern.len());
+    let n = cuts::list(SAMPLE_ORDER, pattern, &mut list[0..k + 1]);
+    let a = result_fits(n, result.len());
     let Answer::Done(_) = a else {
         return a;
     };
-    cuts::write(SAMPLE_ORDER, pattern, result);
+    slices::copy(&list[0..n], result);
     a
 }
 

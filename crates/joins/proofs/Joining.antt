@@ -1,25 +1,24 @@
 -- The cut at a join: where the pattern stands across it at a cut, that is the one straddling occurrence (`join-hit`); where it does so at
--- no cut that is tried and fits, there is none (`join-miss`).
+-- no cut that is tried and whose front fits, there is none (`join-miss`). The cuts rise, so behind one whose front is too long none fits (`missed-rest`).
 use mathlib.Core.Path.{_≡_, refl, sym, _∙_, ap, ap₂, subst}
-use mathlib.Core.Bool.{true, _&&_}
-use mathlib.Core.List.{List, [], _∷_, _++_, map, List·Memᴰ as In, List·Memᴰ·not-nil as in-nil, List·Memᴰ·eq-of-singleton as in-one}
+use mathlib.Core.Bool.{Bool, true, false, _&&_}
+use mathlib.Core.List.{List, [], _∷_, _++_, List·Memᴰ as In, List·Memᴰ·not-nil as in-nil, List·Memᴰ·eq-of-singleton as in-one}
 use Prim.Native.Nat.{ℕ, zero, suc, _+_, _-_, _/_, _%_, _≤_, _<_, min}
 use native.Mathlib.Omega.{arith}
-use lib.ListN.{length, take, drop, length-append, length-map}
-use lib.Dec.{ltb}
-use borrow.Author.Tests.{lt-ltb}
-use Rattle.definitions.specs.declared.Order.{Order}
-use Rattle.definitions.specs.Words.{begins}
-use Rattle.definitions.specs.Table.{rankOf}
+use lib.ListN.{length, take, drop, getD, length-append}
+use lib.Dec.{leb, ltb}
+use borrow.Author.Tests.{lt-ltb, le-leb, leb-true}
+use Rattle.definitions.specs.Words.{same, begins}
 use Rattle.definitions.specs.Occurrences.{straddling, straddles, cutAt}
-use Rattle.lists.specs.Bools.{and-intro}
-use Rattle.lists.specs.Numbers.{split-lt, below-in}
-use Rattle.lists.specs.Members.{in-none}
-use Rattle.lists.specs.Parts.{part, part-length, part-append, part-part}
-use Rattle.lyndon.specs.Joins.{triedCuts, tried-suffice, straddling-cut, straddling-most, cut-at}
+use Rattle.lists.specs.Bools.{contra, and-left, and-right, and-intro}
+use Rattle.lists.specs.Numbers.{split-le, split-lt, below-in}
+use Rattle.lists.specs.Members.{in-at, at-in, rising-at, in-none}
+use Rattle.lists.specs.Parts.{part, part-at, part-length, part-append, part-part}
+use Rattle.lists.specs.Strings.{same-eq, eq-same}
+use Rattle.lyndon.specs.Joins.{triedCuts, tried-suffice, tried-rising, straddling-cut, straddling-most, cut-at}
 use Rattle.lyndon.specs.Occurrences.{begins-at, at-begins}
-use Rattle.layout.specs.Layout.{PACK}
-use Rattle.joins.specs.Joining.{cutPlace, JoinCut}
+use Rattle.layout.specs.Layout.{PATTERN, CUTS, PACK, WORK}
+use Rattle.joins.specs.Joining.{Tried, cutPlace, JoinCut}
 
 -- ---- lists with at most one member
 
@@ -42,85 +41,118 @@ unfolding cutPlace
 cut-place-size n zero = refl
 cut-place-size n (suc c) = omega arith
 
--- ---- the cuts of a pattern of samples, one after the other
+-- ---- the cuts that are tried, one after the other
 
--- at no cut that is tried, from `first` up to c, the pattern stands across the join
-abbrev pub Missed : Order → List ℕ → List ℕ → ℕ → ℕ → ℕ → Type 0
-Missed o p w join first c = (d : ℕ) → first ≤ d → d < c → In d (triedCuts (map (rankOf o) p)) → part (join - d) (length p) w ≡ map (rankOf o) p → ⊥
+-- the pattern, m symbols, straddles at c the join of the `left` and `right` symbols that stand from `at` on, as the code tests it
+abbrev pub tested : List ℕ → ℕ → ℕ → ℕ → ℕ → ℕ → Bool
+tested w m at left right c = leb (m - c) right && same (part (at + left - c) m w) (part PATTERN m w)
 
-module _ (o : Order) (p w : List ℕ) where
-  pub missed-none : (join first : ℕ) → Missed o p w join first first
-  missed-none join first d h k m e = absurd (omega arith)
+-- so at none of the first i cuts
+abbrev pub Missed : List ℕ → ℕ → ℕ → ℕ → ℕ → ℕ → Type 0
+Missed w m at left right i = (j : ℕ) → j < i → tested w m at left right (getD w (CUTS + j) 0) ≡ false
 
-  pub missed-more : (join first c : ℕ) → Missed o p w join first c
-      → (In c (triedCuts (map (rankOf o) p)) → part (join - c) (length p) w ≡ map (rankOf o) p → ⊥) → Missed o p w join first (c + 1)
-  missed-more join first c h n d a b m e =
-      split-lt d c (λ l. h d a l m e)
-      (λ q. n (subst (λ (i : ℕ). In i (triedCuts (map (rankOf o) p))) q m) (subst (λ (i : ℕ). part (join - i) (length p) w ≡ map (rankOf o) p) q e))
-      (λ l. absurd (omega arith))
+module _ (w : List ℕ) (m n at left right : ℕ) (t : Tried m n w) (fits : at + left + right ≤ 2048) (long : WORK ≤ length w) where
+  abbrev P : List ℕ
+  P = part PATTERN m w
 
-  -- two strings that stand one behind the other in w
-  module _ (at left right : ℕ) (fits : at + left + right ≤ length w) where
-    abbrev P : List ℕ
-    P = map (rankOf o) p
+  abbrev u : List ℕ
+  u = part at left w
 
-    abbrev u : List ℕ
-    u = part at left w
+  abbrev v : List ℕ
+  v = part (at + left) right w
 
-    abbrev v : List ℕ
-    v = part (at + left) right w
+  size : length (part PATTERN m w) ≡ m
+  size = part-length PATTERN m w (omega (arith, t .short))
 
-    ranks-size : length (map (rankOf o) p) ≡ length p
-    ranks-size = length-map p (rankOf o)
+  left-size : length (part at left w) ≡ left
+  left-size = part-length at left w (omega arith)
 
-    left-size : length (part at left w) ≡ left
-    left-size = part-length at left w (omega arith)
+  whole-size : length (part at left w ++ part (at + left) right w) ≡ left + right
+  whole-size = length-append u v ∙ omega (arith, left-size, part-length (at + left) right w (omega arith))
 
-    whole-size : length (part at left w ++ part (at + left) right w) ≡ left + right
-    whole-size = length-append u v ∙ omega (arith, left-size, part-length (at + left) right w (omega arith))
+  -- what stands across the join is a part of w
+  taken : (i k : ℕ) → i + m ≤ left + right → k ≡ at + i → take (length (part PATTERN m w)) (drop i (part at left w ++ part (at + left) right w)) ≡ part k m w
+  unfolding part
+  taken i k h e =
+      ap₂ {C = List ℕ} (λ a l. take a (drop i l)) size (sym (part-append at left right w))
+      ∙ part-part at (left + right) i m w h
+      ∙ ap (λ (j : ℕ). part j m w) (sym e)
 
-    taken : (i k : ℕ) → i + length p ≤ left + right → k ≡ at + i → take (length (map (rankOf o) p)) (drop i (part at left w ++ part (at + left) right w)) ≡ part k (length p) w
-    unfolding part
-    taken i k h e =
-        ap₂ {C = List ℕ} (λ n l. take n (drop i l)) ranks-size (sym (part-append at left right w))
-        ∙ part-part at (left + right) i (length p) w h
-        ∙ ap (λ (j : ℕ). part j (length p) w) (sym e)
+  -- cut number i
+  entry : (i : ℕ) → i < n → getD w (CUTS + i) 0 ≡ getD (triedCuts (part PATTERN m w)) i 0
+  entry i h = sym (part-at CUTS n w i 0 h) ∙ ap (λ (l : List ℕ). getD l i 0) (t .cuts)
 
-    pub join-hit : (join c : ℕ) → join ≡ at + left → 0 < c → c < length p → c ≤ left → length p ≤ c + right → part (join - c) (length p) w ≡ map (rankOf o) p
-        → JoinCut (map (rankOf o) p) (part at left w) (part (at + left) right w) c
-    unfolding straddling straddles
-    join-hit join c j z k l m e =
-        record {
-          small = omega (arith, ranks-size);
-          inside = omega (arith, left-size);
-          place = λ d. only-member (straddling P u v) (left - c) inside (straddling-most P u v d) ∙ ap (λ (n : ℕ). (n - c) ∷ []) (sym left-size) ∙ sym (cut-place (length u) c z);
-        }
-      where
-        here-begins : begins (map (rankOf o) p) (drop (left - c) (part at left w ++ part (at + left) right w)) ≡ true
-        here-begins = at-begins P (u ++ v) (left - c) (omega (arith, whole-size, ranks-size), taken (left - c) (join - c) (omega arith) (omega arith) ∙ e)
+  count : length (triedCuts (part PATTERN m w)) ≡ n
+  count = ap length (sym (t .cuts)) ∙ part-length CUTS n w (omega (arith, t .few))
 
-        inside : In (left - c) (straddling (map (rankOf o) p) (part at left w) (part (at + left) right w))
-        inside =
-            below-in (λ i. begins P (drop i (u ++ v)) && (ltb i (length u) && ltb (length u) (i + length P))) (suc (length (u ++ v))) (left - c) (omega (arith, whole-size))
-            (and-intro (begins P (drop (left - c) (u ++ v))) (ltb (left - c) (length u) && ltb (length u) (left - c + length P)) here-begins
-            (and-intro (ltb (left - c) (length u)) (ltb (length u) (left - c + length P)) (lt-ltb (left - c) (length u) (omega (arith, left-size))) (lt-ltb (length u) (left - c + length P) (omega (arith, left-size, ranks-size)))))
+  pub cut-range : (i : ℕ) → i < n → (0 < getD w (CUTS + i) 0) × (getD w (CUTS + i) 0 < m)
+  cut-range i h =
+      let (a, b) = tried-suffice P .cut (getD (triedCuts P) i 0) (at-in (triedCuts P) i (omega (arith, count))) in
+      (omega (arith, entry i h), omega (arith, entry i h, size))
 
-    pub join-miss : (join first end c : ℕ) → join ≡ at + left → 0 < length p → first ≡ 1 + (length p - right - 1) → end ≡ min (length p) (suc left) → end ≤ c
-        → Missed o p w join first c → JoinCut (map (rankOf o) p) (part at left w) (part (at + left) right w) 0
-    join-miss join first end c j z f g k h =
-        record {
-          small = omega (arith, ranks-size);
-          inside = omega arith;
-          place = λ d. straddling-cut P (triedCuts P) u v (tried-suffice P) d ∙ in-none (cutAt P (triedCuts P) u v) none ∙ sym (cut-place-none (length u) 0 refl);
-        }
-      where
-        none : (i : ℕ) → In i (cutAt (map (rankOf o) p) (triedCuts (map (rankOf o) p)) (part at left w) (part (at + left) right w)) → ⊥
-        none i m =
-            let (d, n, e, b) = cut-at P (triedCuts P) u v i m in
-            let (l, q) = begins-at P (u ++ v) i (omega (arith, whole-size, left-size)) b in
-            let (a, s) = tried-suffice P .cut d n in
-            h d (omega (arith, whole-size, left-size, ranks-size)) (omega (arith, left-size, ranks-size)) n
-            (sym (taken i (join - d) (omega (arith, whole-size, ranks-size)) (omega (arith, left-size))) ∙ q)
+  pub missed-more : (i : ℕ) → Missed w m at left right i → tested w m at left right (getD w (CUTS + i) 0) ≡ false → Missed w m at left right (i + 1)
+  missed-more i h e j k = split-lt j i (λ l. h j l) (λ q. subst (λ (d : ℕ). tested w m at left right (getD w (CUTS + d) 0) ≡ false) (sym q) e) (λ l. absurd (omega arith))
+
+  -- so at none that is tried and whose front fits, once all are passed or the next one's front is too long
+  abbrev pub NoneFits : Type 0
+  NoneFits = (d : ℕ) → In d (triedCuts (part PATTERN m w)) → d ≤ left → tested w m at left right d ≡ false
+
+  none-fits : (i : ℕ) → Missed w m at left right i → ((j : ℕ) → i ≤ j → j < n → left < getD w (CUTS + j) 0) → NoneFits
+  none-fits i h rest d k l =
+      let (j, a, e) = in-at d (triedCuts P) k in
+      let b : j < n = omega (arith, count) in
+      let q : getD w (CUTS + j) 0 ≡ d = entry j b ∙ e in
+      split-le i j (λ x. absurd (omega (arith, rest j x b))) (λ x. subst (λ (c : ℕ). tested w m at left right c ≡ false) q (h j x))
+
+  pub missed-all : (i : ℕ) → n ≤ i → Missed w m at left right i → NoneFits
+  missed-all i h k = none-fits i k (λ j a b. absurd (omega arith))
+
+  pub missed-rest : (i : ℕ) → i < n → left < getD w (CUTS + i) 0 → Missed w m at left right i → NoneFits
+  missed-rest i h l k = none-fits i k (λ j a b. split-lt i j
+      (λ x. omega (arith, entry i h, entry j b, rising-at (triedCuts P) (tried-rising P) i j x (omega (arith, count))))
+      (λ x. subst (λ (d : ℕ). left < getD w (CUTS + d) 0) x l)
+      (λ x. absurd (omega arith)))
+
+  pub join-hit : (c : ℕ) → 0 < c → c < m → c ≤ left → tested w m at left right c ≡ true → JoinCut (part PATTERN m w) (part at left w) (part (at + left) right w) c
+  unfolding straddling straddles
+  join-hit c z k l e =
+      record {
+        small = omega (arith, size);
+        inside = omega (arith, left-size);
+        place = λ d. only-member (straddling P u v) (left - c) inside (straddling-most P u v d) ∙ ap (λ (i : ℕ). (i - c) ∷ []) (sym left-size) ∙ sym (cut-place (length u) c z);
+      }
+    where
+      fit : m - c ≤ right
+      fit = leb-true (m - c) right (and-left (leb (m - c) right) (same (part (at + left - c) m w) P) e)
+
+      here-begins : begins (part PATTERN m w) (drop (left - c) (part at left w ++ part (at + left) right w)) ≡ true
+      here-begins =
+          at-begins P (u ++ v) (left - c)
+          (omega (arith, fit, whole-size, size), taken (left - c) (at + left - c) (omega (arith, fit)) (omega arith) ∙ same-eq (part (at + left - c) m w) P (and-right (leb (m - c) right) (same (part (at + left - c) m w) P) e))
+
+      inside : In (left - c) (straddling (part PATTERN m w) (part at left w) (part (at + left) right w))
+      inside =
+          below-in (λ i. begins P (drop i (u ++ v)) && (ltb i (length u) && ltb (length u) (i + length P))) (suc (length (u ++ v))) (left - c) (omega (arith, whole-size))
+          (and-intro (begins P (drop (left - c) (u ++ v))) (ltb (left - c) (length u) && ltb (length u) (left - c + length P)) here-begins
+          (and-intro (ltb (left - c) (length u)) (ltb (length u) (left - c + length P)) (lt-ltb (left - c) (length u) (omega (arith, left-size))) (lt-ltb (length u) (left - c + length P) (omega (arith, left-size, size)))))
+
+  pub join-miss : NoneFits → JoinCut (part PATTERN m w) (part at left w) (part (at + left) right w) 0
+  join-miss h =
+      record {
+        small = omega (arith, size, t .filled);
+        inside = omega arith;
+        place = λ d. straddling-cut P (triedCuts P) u v (tried-suffice P) d ∙ in-none (cutAt P (triedCuts P) u v) none ∙ sym (cut-place-none (length u) 0 refl);
+      }
+    where
+      none : (i : ℕ) → In i (cutAt (part PATTERN m w) (triedCuts (part PATTERN m w)) (part at left w) (part (at + left) right w)) → ⊥
+      none i k =
+          let (d, a, e, b) = cut-at P (triedCuts P) u v i k in
+          let (l, q) = begins-at P (u ++ v) i (omega (arith, whole-size, left-size)) b in
+          contra
+          (and-intro (leb (m - d) right) (same (part (at + left - d) m w) P)
+          (le-leb (m - d) right (omega (arith, whole-size, left-size, size)))
+          (eq-same (part (at + left - d) m w) P (sym (taken i (at + left - d) (omega (arith, whole-size, size)) (omega (arith, left-size))) ∙ q)))
+          (h d a (omega (arith, left-size)))
 
 -- ---- packed
 

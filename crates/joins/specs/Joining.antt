@@ -1,21 +1,21 @@
--- What is said of a join: the cut at which an occurrence straddles it (`JoinCut`), and the flags by which cuts are tried (`Flagged`). p is a
--- pattern as ranks, w the work slice, where the flags stand from FLAGS on.
+-- What is said of a join: the cut at which an occurrence straddles it (`JoinCut`), and the cuts that are tried (`Tried`). w is the work slice, where the ranks
+-- of the pattern stand from PATTERN on and its cuts from CUTS on.
 use mathlib.Core.Path.{_≡_}
-use mathlib.Core.List.{List, [], _∷_, List·Memᴰ as In}
-use Prim.Native.Nat.{ℕ, zero, suc, _+_, _-_, _≤_, _<_}
-use lib.ListN.{length, getD}
+use mathlib.Core.List.{List, [], _∷_}
+use Prim.Native.Nat.{ℕ, zero, suc, _-_, _≤_, _<_}
+use lib.ListN.{length}
 use Rattle.definitions.specs.Occurrences.{straddling}
+use Rattle.lists.specs.Parts.{part}
 use Rattle.lyndon.specs.Factorization.{Std}
 use Rattle.lyndon.specs.Joins.{triedCuts}
-use Rattle.layout.specs.Layout.{FLAGS}
+use Rattle.layout.specs.Layout.{PATTERN, CUTS}
 
--- no cut that is tried has the flag 0
-abbrev pub Flagged : List ℕ → List ℕ → Type 0
-Flagged p w = (c : ℕ) → In c (triedCuts p) → getD w (FLAGS + c) 0 ≡ 0 → ⊥
-
--- of the first n words of w those behind the first are ranks of samples
-abbrev pub Samples : ℕ → List ℕ → Type 0
-Samples n w = (i : ℕ) → 0 < i → i < n → (0 < getD w i 0) × (getD w i 0 < 257)
+-- the pattern has m symbols, and the n cuts that are tried are its own
+pub record Tried (m n : ℕ) (w : List ℕ) : Type 0 where
+  pub filled : 0 < m
+  pub short : m ≤ 2047
+  pub few : n ≤ 11
+  pub cuts : part CUTS n w ≡ triedCuts (part PATTERN m w)
 
 -- the place of an occurrence cut at c at a join behind n symbols; none where c is 0
 unfoldable pub cutPlace : ℕ → ℕ → List ℕ

@@ -33,8 +33,11 @@ ENTRIES = 6656
 abbrev pub FOUND : ℕ
 FOUND = 6656
 
-abbrev pub FLAGS : ℕ
-FLAGS = 8960
+abbrev pub PATTERN : ℕ
+PATTERN = 8960
+
+abbrev pub CUTS : ℕ
+CUTS = 11008
 
 abbrev pub WORK : ℕ
 WORK = 16384

@@ -29,7 +29,8 @@
 //     LENGTHS   2048   length of a rule's string             2304
 //     PLACES    4352   a place at which it stands            2304
 //     FOUND     6656   its occurrences * PACK + its join's cut  2304
-//     FLAGS     8960   a flag for each cut                   2048
+//     PATTERN   8960   ranks of the pattern                  2048
+//     CUTS      11008  its listed cuts                       11
 //     TABLE     11520  the table                             4608
 pub const LONGEST: usize = 2048;
 
@@ -58,9 +59,9 @@ pub const FOUND: usize = 6656;
 // A word of FOUND is occurrences * PACK + cut.
 pub const PACK: u32 = 4096;
 
-pub const FLAGS: usize = 8960;
+pub const PATTERN: usize = 8960;
 
-pub const FLAGS_END: usize = 11008;
+pub const CUTS: usize = 11008;
 // The words of the work slice that the services use.
 pub const WORK: usize = 16384;
 

@@ -101,6 +101,11 @@ is-live p c (z, h, l) =
 pub live-cut : (p : List ℕ) (c : ℕ) → In c (liveCuts p) ↔ Live p c
 live-cut p c = (live-is p c, is-live p c)
 
+-- the test alone
+pub live-test : (p : List ℕ) (c : ℕ) → c < length p → isLive p c ≡ true ↔ Live p c
+unfolding liveCuts
+live-test p c h = (λ e. live-is p c (below-in (isLive p) (length p) c h e), λ l. below-lt (isLive p) (length p) c (is-live p c l) .1)
+
 pub cuts-rising : (p : List ℕ) → Rising (liveCuts p)
 unfolding liveCuts
 cuts-rising p = below-rising (isLive p) (length p)
@@ -194,8 +199,17 @@ straddle-live p u v i std s = (s .front-filled, omega (arith, size, s .rest-fill
             (λ m. lt-asym v (y ++ s .behind) m l)
             (std .least (s .before ++ take d p) (y ++ s .behind) (simp (length-append, length-take) (omega arith)) (simp (length-append, length-drop) (omega arith)) suffix)
 
--- at most one occurrence straddles: with m between the two cuts, v begins with m and u ends with it, so m ++ v, a suffix, would be
--- both smaller and greater than v
+-- u does not end with m, and be longer, where v begins with m, and is longer: m ++ v, a suffix, would be both smaller and greater than v
+pub std-again : (u v x m y : List ℕ) → Std u v → u ≡ x ++ m → v ≡ m ++ y → 0 < length x → 0 < length m → 0 < length y → ⊥
+std-again u v x m y std left right hx hm hy = ⊎-elim
+    (λ e. omega (arith, simp length-append at (ap length e)))
+    (λ l. ⊎-elim
+    (λ e. omega (arith, ap length e, simp length-append at (ap length right)))
+    (λ k. lt-asym v (m ++ v) l (subst (λ (z : List ℕ). Lt (m ++ v) z) (sym right) (lt-append m v y k)))
+    (std .least (u ++ m) y (simp length-append (omega arith)) hy (ap (λ (z : List ℕ). u ++ z) right ∙ sym (append-assoc u m y))))
+    (std .least x (m ++ v) hx (simp length-append (omega arith)) (ap (λ (z : List ℕ). z ++ v) left ∙ append-assoc x m v))
+
+-- at most one occurrence straddles: with m between the two cuts, v begins with m and u ends with it
 pub straddle-once : (p u v : List ℕ) (i j : ℕ) → Std u v → Straddle p u v i → Straddle p u v j → i < j → ⊥
 straddle-once p u v i j std s t h = go (overlap (s .front) (s .rest) (t .front) (t .rest) (sym (s .cut) ∙ t .cut))
   where
@@ -204,21 +218,10 @@ straddle-once p u v i j std s t h = go (overlap (s .front) (s .rest) (t .front) 
 
     go : Overlap (s .front) (s .rest) (t .front) (t .rest) → ⊥
     go (across m n a b) = omega (arith, fronts, simp length-append at (ap length a))
-    go (within m a b) = ⊎-elim
-        (λ e. omega (arith, filled, simp length-append at (ap length e)))
-        (λ l. ⊎-elim
-        (λ e. omega (arith, filled, simp length-append at (ap length e), simp length-append at (ap length right)))
-        (λ k. lt-asym v (m ++ v) l (subst (λ (x : List ℕ). Lt (m ++ v) x) right (lt-append m v (s .rest ++ t .behind) k)))
-        (std .least (u ++ m) (s .rest ++ t .behind) (simp length-append (omega (arith, std .left))) (simp length-append (omega (arith, s .rest-filled)))
-        (ap (λ (x : List ℕ). u ++ x) (sym right) ∙ sym (append-assoc u m (s .rest ++ t .behind)))))
-        (std .least (s .before ++ t .front) (m ++ v) (simp length-append (omega (arith, t .front-filled))) (simp length-append (omega (arith, std .right)))
-        (ap (λ (x : List ℕ). x ++ v) left ∙ append-assoc (s .before ++ t .front) m v))
-      where
-        filled : 0 < length m
-        filled = omega (arith, fronts, simp length-append at (ap length a))
-
-        left : u ≡ (s .before ++ t .front) ++ m
-        left = s .left ∙ ap (λ (x : List ℕ). s .before ++ x) a ∙ sym (append-assoc (s .before) (t .front) m)
-
-        right : m ++ (s .rest ++ t .behind) ≡ v
-        right = sym (append-assoc m (s .rest) (t .behind)) ∙ ap (λ (x : List ℕ). x ++ t .behind) (sym b) ∙ sym (t .right)
+    go (within m a b) =
+        std-again u v (s .before ++ t .front) m (s .rest ++ t .behind) std
+        (s .left ∙ ap (λ (x : List ℕ). s .before ++ x) a ∙ sym (append-assoc (s .before) (t .front) m))
+        (t .right ∙ ap (λ (x : List ℕ). x ++ t .behind) b ∙ append-assoc m (s .rest) (t .behind))
+        (simp length-append (omega (arith, t .front-filled)))
+        (omega (arith, fronts, simp length-append at (ap length a)))
+        (simp length-append (omega (arith, s .rest-filled)))

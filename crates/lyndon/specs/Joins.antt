@@ -1,5 +1,6 @@
 -- Occurrences at a join: those in u ++ v are those in u, those that straddle the join, and those in v moved on (`occurrences-join`);
--- under a standard factorization the straddling ones are exactly those cut at a live cut (`straddling-cut`, `live-suffice`), at most one (`straddling-most`).
+-- under a standard factorization the straddling ones are exactly those cut at a live cut, and those cut at a listed cut (`straddling-cut`, `live-suffice`,
+-- `listed-suffice`), at most one (`straddling-most`).
 use mathlib.Core.Path.{_≡_, refl, sym, _∙_, ap, ap₂}
 use mathlib.Core.Bool.{Bool, true, false, _&&_, false≢true}
 use mathlib.Core.Logic.{_⊎_, inl, inr, ⊎-elim}
@@ -11,12 +12,13 @@ use lib.Seq.{drop-append-add, drop-append-le, drop-append-seam}
 use lib.Dec.{ltb, eqb}
 use borrow.Author.Tests.{ltb-true, lt-ltb, eqb-true, eq-eqb}
 use Rattle.definitions.specs.Words.{below, begins}
-use Rattle.definitions.specs.Occurrences.{occurrences, liveCuts, straddles, straddling, cutIn, cutAt}
+use Rattle.definitions.specs.Occurrences.{occurrences, liveCuts, listedCuts, straddles, straddling, cutIn, cutAt}
 use Rattle.lists.specs.Bools.{bool-ext, not-so, and-left, and-right, and-intro, and-same, or-left, or-right, or-cases}
-use Rattle.lists.specs.Numbers.{rising-most, below-in, below-lt, below-rising, below-ext, below-stop, below-append, below-split}
+use Rattle.lists.specs.Numbers.{Rising, rising-most, below-in, below-lt, below-rising, below-ext, below-stop, below-append, below-split}
 use Rattle.lists.specs.Strings.{begins-rest, rest-begins}
 use Rattle.lyndon.specs.Factorization.{Std}
-use Rattle.lyndon.specs.Cuts.{Live, live-cut, Straddle, straddle-view, straddle-live, straddle-once}
+use Rattle.lyndon.specs.Cuts.{live-cut, Straddle, straddle-view, straddle-live, straddle-once}
+use Rattle.lyndon.specs.Listed.{listed-live, straddle-listed, listed-rising}
 
 cut-in : (cuts u : List ℕ) (i : ℕ) → cutIn cuts u i ≡ true → (c : ℕ) × In c cuts × (i + c ≡ length u)
 unfolding cutIn
@@ -74,17 +76,25 @@ live-suffice p =
       straddle = λ u v i d s. live-cut p (length (s .front)) .1 (straddle-live p u v i d s);
     }
 
--- the cuts that a search tries at a join: the live cuts
-unfoldable pub triedCuts : List ℕ → List ℕ
-triedCuts p = liveCuts p
+-- so do the listed cuts
+pub listed-suffice : (p : List ℕ) → Suffices p (listedCuts p)
+listed-suffice p =
+    record {
+      cut = λ c m. let (z, k, l) = listed-live p c m in (z, k);
+      straddle = straddle-listed p;
+    }
 
-pub tried-live : (p : List ℕ) (c : ℕ) → In c (triedCuts p) → Live p c
-unfolding triedCuts
-tried-live p c m = live-cut p c .0 m
+-- the cuts that a search tries at a join: the listed cuts
+unfoldable pub triedCuts : List ℕ → List ℕ
+triedCuts p = listedCuts p
 
 pub tried-suffice : (p : List ℕ) → Suffices p (triedCuts p)
 unfolding triedCuts
-tried-suffice p = live-suffice p
+tried-suffice p = listed-suffice p
+
+pub tried-rising : (p : List ℕ) → Rising (triedCuts p)
+unfolding triedCuts
+tried-rising p = listed-rising p
 
 -- an occurrence is cut at the join at one of the cuts exactly when, for some c of them, it begins c before the join: u ends with the
 -- first c symbols of p and v begins with the others

@@ -13,6 +13,8 @@ pub mod Tables
 pub mod Stored
 pub mod Occurrences
 pub mod Cuts
+pub mod Differences
+pub mod Listed
 pub mod Joins
 pub mod Pairs
 pub mod Shapes

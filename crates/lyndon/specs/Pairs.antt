@@ -1,6 +1,7 @@
 -- Demand 3 on pair rules: in every accepted table the two halves of a pair rule are its string's standard factorization
--- (`pair-halves`), the occurrences that straddle its join are exactly those cut there at a live cut (`pair-straddling`), and its
--- occurrences are those in the left half, those, and those in the right half moved on (`pair-occurrences`).
+-- (`pair-halves`), the occurrences that straddle its join are exactly those cut there at a listed cut (`pair-straddling`), and its
+-- occurrences are those in the left half, those, and those in the right half moved on (`pair-occurrences`); so with the live cuts
+-- (`pair-straddling-live`, `pair-occurrences-live`).
 use mathlib.Core.Path.{_≡_, sym, _∙_, ap, ap₂, subst}
 use mathlib.Core.Bool.{true}
 use mathlib.Core.List.{List, [], _++_, map}
@@ -12,7 +13,7 @@ use borrow.Author.Tests.{ltb-true, eqb-true}
 use Rattle.definitions.specs.declared.Order.{Order}
 use Rattle.definitions.specs.Grammar.{leftOf, rightOf, order}
 use Rattle.definitions.specs.Table.{rankOf, numberOfRank, marked, words, kindOf, numberOf, tableOf, isTable, textOf, chairOf, isPair, leftHalf, rightHalf, ruleString, ruleCount}
-use Rattle.definitions.specs.Occurrences.{occurrences, liveCuts, patternCuts, straddling, cutAt}
+use Rattle.definitions.specs.Occurrences.{occurrences, liveCuts, listedCuts, patternCuts, straddling, cutAt}
 use Rattle.lists.specs.Bools.{and-left, and-right}
 use Rattle.lyndon.specs.Factorization.{Std, std-parts}
 use Rattle.lyndon.specs.Rules.{rulesFor}
@@ -20,7 +21,7 @@ use Rattle.lyndon.specs.Ranks.{number-range}
 use Rattle.lyndon.specs.Encoding.{word-kind, word-number}
 use Rattle.lyndon.specs.Tables.{Entry, one, two, entry}
 use Rattle.lyndon.specs.Stored.{Stored, storable, order-most, table-words, table-rules, table-strings, accepted-stored, accepted-table}
-use Rattle.lyndon.specs.Joins.{straddling-cut, live-suffice, occurrences-join}
+use Rattle.lyndon.specs.Joins.{Suffices, straddling-cut, live-suffice, listed-suffice, occurrences-join}
 
 -- the string of rule r is its halves' strings, and these are its standard factorization
 abbrev pub StandardHalves : Order → List ℕ → ℕ → Type 0
@@ -64,22 +65,43 @@ pair-halves o t a r e =
     subst (λ (x : List ℕ). StandardHalves o x r) (accepted-table o t a)
     (stored-halves o (textOf o t) (chairOf t) (accepted-stored o t a) r (rw (accepted-table o t a) e))
 
--- trying live cuts alone loses no occurrence
+-- at cuts that suffice, such as the live cuts and the listed cuts of p
+module _ (o : Order) (t : List ℕ) (accepted : isTable o t ≡ true) (r : ℕ) (pair : isPair t r ≡ true) (p cuts : List ℕ) (ok : Suffices p cuts) where
+  straddling-at : straddling p (leftHalf o t r) (rightHalf o t r) ≡ cutAt p cuts (leftHalf o t r) (rightHalf o t r)
+  straddling-at = straddling-cut p cuts (leftHalf o t r) (rightHalf o t r) ok (pair-halves o t accepted r pair .1)
+
+  occurrences-at : 0 < length p
+      → occurrences p (ruleString o t r)
+      ≡ occurrences p (leftHalf o t r)
+      ++ (cutAt p cuts (leftHalf o t r) (rightHalf o t r) ++ map (λ (k : ℕ). length (leftHalf o t r) + k) (occurrences p (rightHalf o t r)))
+  occurrences-at h =
+      ap (occurrences p) (pair-halves o t accepted r pair .0)
+      ∙ occurrences-join p (leftHalf o t r) (rightHalf o t r) h
+      ∙ ap (λ (x : List ℕ). occurrences p (leftHalf o t r) ++ (x ++ map (λ (k : ℕ). length (leftHalf o t r) + k) (occurrences p (rightHalf o t r)))) straddling-at
+
+-- trying listed cuts alone loses no occurrence
 pub pair-straddling : (o : Order) (t : List ℕ) → isTable o t ≡ true → (r : ℕ) → isPair t r ≡ true → (p : List ℕ)
-    → straddling p (leftHalf o t r) (rightHalf o t r) ≡ cutAt p (liveCuts p) (leftHalf o t r) (rightHalf o t r)
-pair-straddling o t a r e p = straddling-cut p (liveCuts p) (leftHalf o t r) (rightHalf o t r) (live-suffice p) (pair-halves o t a r e .1)
+    → straddling p (leftHalf o t r) (rightHalf o t r) ≡ cutAt p (listedCuts p) (leftHalf o t r) (rightHalf o t r)
+pair-straddling o t a r e p = straddling-at o t a r e p (listedCuts p) (listed-suffice p)
 
 pub pair-occurrences : (o : Order) (t : List ℕ) → isTable o t ≡ true → (r : ℕ) → isPair t r ≡ true → (p : List ℕ) → 0 < length p
     → occurrences p (ruleString o t r)
     ≡ occurrences p (leftHalf o t r)
-    ++ (cutAt p (liveCuts p) (leftHalf o t r) (rightHalf o t r) ++ map (λ (k : ℕ). length (leftHalf o t r) + k) (occurrences p (rightHalf o t r)))
-pair-occurrences o t a r e p h =
-    let (s, d) = pair-halves o t a r e in
-    ap (occurrences p) s
-    ∙ occurrences-join p (leftHalf o t r) (rightHalf o t r) h
-    ∙ ap (λ (x : List ℕ). occurrences p (leftHalf o t r) ++ (x ++ map (λ (k : ℕ). length (leftHalf o t r) + k) (occurrences p (rightHalf o t r)))) (straddling-cut p (liveCuts p) (leftHalf o t r) (rightHalf o t r) (live-suffice p) d)
+    ++ (cutAt p (listedCuts p) (leftHalf o t r) (rightHalf o t r) ++ map (λ (k : ℕ). length (leftHalf o t r) + k) (occurrences p (rightHalf o t r)))
+pair-occurrences o t a r e p h = occurrences-at o t a r e p (listedCuts p) (listed-suffice p) h
 
--- the same for a pattern of samples and its live cuts
+-- nor does trying live cuts alone
+pub pair-straddling-live : (o : Order) (t : List ℕ) → isTable o t ≡ true → (r : ℕ) → isPair t r ≡ true → (p : List ℕ)
+    → straddling p (leftHalf o t r) (rightHalf o t r) ≡ cutAt p (liveCuts p) (leftHalf o t r) (rightHalf o t r)
+pair-straddling-live o t a r e p = straddling-at o t a r e p (liveCuts p) (live-suffice p)
+
+pub pair-occurrences-live : (o : Order) (t : List ℕ) → isTable o t ≡ true → (r : ℕ) → isPair t r ≡ true → (p : List ℕ) → 0 < length p
+    → occurrences p (ruleString o t r)
+    ≡ occurrences p (leftHalf o t r)
+    ++ (cutAt p (liveCuts p) (leftHalf o t r) (rightHalf o t r) ++ map (λ (k : ℕ). length (leftHalf o t r) + k) (occurrences p (rightHalf o t r)))
+pair-occurrences-live o t a r e p h = occurrences-at o t a r e p (liveCuts p) (live-suffice p) h
+
+-- the same for a pattern of samples and its listed cuts
 pub pattern-straddling : (o : Order) (t : List ℕ) → isTable o t ≡ true → (r : ℕ) → isPair t r ≡ true → (p : List ℕ)
     → straddling (map (rankOf o) p) (leftHalf o t r) (rightHalf o t r) ≡ cutAt (map (rankOf o) p) (patternCuts o p) (leftHalf o t r) (rightHalf o t r)
 unfolding patternCuts

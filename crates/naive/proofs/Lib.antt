@@ -1,2 +1,4 @@
 pub mod Scanning
+pub mod Noting
 pub mod Trying
+pub mod Cutting

@@ -1,5 +1,5 @@
--- Trying words, with f the rank of a sample: while two words agree the rest decides (`smaller-here`, `greater-here`, `agree`, `second-ends`, `first-ends`); the suffixes of a word
--- passed are greater than it (`none-tried` to `all-tried`); no length above the one reached gives a Lyndon word (`whole-rest`, `found`, `passed`).
+-- Trying words, with f the rank of a sample: while two words agree the rest decides (`smaller-here` to `first-ends`); a test of every number from 1 on, as that a Lyndon
+-- word is smaller than each suffix (`none-tried` to `all-greater`); no length above the one reached gives a Lyndon word (`whole-rest`, `found`, `passed`).
 use mathlib.Core.Path.{_≡_, refl, sym, _∙_, ap, ap₂}
 use mathlib.Core.Bool.{Bool, true, false, _&&_, _||_}
 use mathlib.Core.List.{List, [], _∷_, map}
@@ -56,45 +56,60 @@ module _ (f : ℕ → ℕ) (x y : List ℕ) (i : ℕ) where
       (λ l. second-ends l ∙ sym (le-ltb i (length y) l))
       (λ l. ap₂ {C = Bool} (λ u v. lexlt (map f u) (map f v)) (drop-of-length-le x h) (drop-cons y i 0 l) ∙ sym (lt-ltb i (length y) l))
 
--- ---- a Lyndon word
+-- ---- a test of every number from 1 on
 
--- w is smaller than each of its suffixes that begins before k, itself left out
-abbrev pub passes : List ℕ → ℕ → Bool
-passes w k = every (λ j. eqb j 0 || lexlt w (drop j w)) k
+-- f holds of every number from 1 to n less 1
+abbrev pub fromOne : (ℕ → Bool) → ℕ → Bool
+fromOne f n = every (λ k. eqb k 0 || f k) n
 
-pub none-tried : (w : List ℕ) → passes w 1 ≡ true
-unfolding every
-none-tried w = refl
-
-module _ (f : ℕ → ℕ) (l : List ℕ) (k : ℕ) where
-  -- the suffix from k on, as code takes it
-  suffix : lexlt (map f l) (drop k (map f l)) ≡ lexlt (map f l) (map f (take (length l - k) (drop k l)))
-  suffix = ap (lexlt (map f l)) (drop-map f k l ∙ ap (map f) (sym (take-all (length l - k) (drop k l) (omega (arith, length-drop k l)))))
-
-  pub one-more-tried : passes (map f l) k ≡ true → lexlt (map f l) (map f (take (length l - k) (drop k l))) ≡ true → passes (map f l) (k + 1) ≡ true
+module _ (f : ℕ → Bool) where
+  pub none-tried : fromOne f 1 ≡ true
   unfolding every
-  one-more-tried p e =
-      let w = map f l in
-      ap (passes w) (add-one k)
-      ∙ and-intro (passes w k) (eqb k 0 || lexlt w (drop k w)) p (or-right (eqb k 0) (lexlt w (drop k w)) (suffix ∙ e))
+  none-tried = refl
 
-  pub suffix-smaller : 0 < k → k < length l → lexlt (map f l) (map f (take (length l - k) (drop k l))) ≡ false → lyndon (map f l) ≡ false
-  unfolding lyndon
-  suffix-smaller h b e =
-      let w = map f l in
-      let fails : eqb k 0 || lexlt w (drop k w) ≡ false = rw (ne-eqb k 0 (λ q. omega arith)) (suffix ∙ e) in
-      not-so (lyndon w) (λ q. contra (every-at (λ j. eqb j 0 || lexlt w (drop j w)) (length w) (and-right (ltb 0 (length w)) (passes w (length w)) q) k (omega (arith, length-map l f))) fails)
+  pub one-more-tried : (k : ℕ) → fromOne f k ≡ true → f k ≡ true → fromOne f (k + 1) ≡ true
+  unfolding every
+  one-more-tried k p e = ap (fromOne f) (add-one k) ∙ and-intro (fromOne f k) (eqb k 0 || f k) p (or-right (eqb k 0) (f k) e)
 
-  pub all-tried : length l ≤ k → passes (map f l) k ≡ true → lyndon (map f l) ≡ ltb 0 (length l)
-  unfolding lyndon
-  all-tried h p =
-      let n = length (map f l) in
-      let all : passes (map f l) n ≡ true = every-all (λ j. eqb j 0 || lexlt (map f l) (drop j (map f l))) n (λ j b. every-at (λ j. eqb j 0 || lexlt (map f l) (drop j (map f l))) k p j (omega (arith, length-map l f))) in
-      behind (ltb 0 n) (passes (map f l) n) all ∙ ap (ltb 0) (length-map l f)
+  -- where it stands behind another test
+  pub one-fails : (a : Bool) (n k : ℕ) → 0 < k → k < n → f k ≡ false → a && fromOne f n ≡ false
+  one-fails a n k h b e =
+      let fails : eqb k 0 || f k ≡ false = rw (ne-eqb k 0 (λ q. omega arith)) e in
+      not-so (a && fromOne f n) (λ q. contra (every-at (λ j. eqb j 0 || f j) n (and-right a (fromOne f n) q) k b) fails)
+
+  pub all-tried : (a : Bool) (n k : ℕ) → n ≤ k → fromOne f k ≡ true → a && fromOne f n ≡ a
+  all-tried a n k h p = behind a (fromOne f n) (every-all (λ j. eqb j 0 || f j) n (λ j b. every-at (λ j. eqb j 0 || f j) k p j (omega arith)))
     where
       behind : (a b : Bool) → b ≡ true → a && b ≡ a
       behind true b e = e
       behind false b e = refl
+
+-- ---- a Lyndon word
+
+-- w is smaller than its suffix from a place on
+abbrev pub smallerThanSuffix : List ℕ → ℕ → Bool
+smallerThanSuffix w = λ k. lexlt w (drop k w)
+
+module _ (f : ℕ → ℕ) (l : List ℕ) where
+  -- a suffix, and a stretch, as code takes it
+  pub suffix : (k : ℕ) → drop k (map f l) ≡ map f (take (length l - k) (drop k l))
+  suffix k = drop-map f k l ∙ ap (map f) (sym (take-all (length l - k) (drop k l) (omega (arith, length-drop k l))))
+
+  pub stretch : (i k : ℕ) → take k (drop i (map f l)) ≡ map f (take k (drop i l))
+  stretch i k = ap (take k) (drop-map f i l) ∙ take-map f k (drop i l)
+
+  pub suffix-greater : (k : ℕ) → lexlt (map f l) (map f (take (length l - k) (drop k l))) ≡ true → smallerThanSuffix (map f l) k ≡ true
+  suffix-greater k e = ap (lexlt (map f l)) (suffix k) ∙ e
+
+  pub suffix-smaller : (k : ℕ) → 0 < k → k < length l → lexlt (map f l) (map f (take (length l - k) (drop k l))) ≡ false → lyndon (map f l) ≡ false
+  unfolding lyndon
+  suffix-smaller k h b e =
+      one-fails (smallerThanSuffix (map f l)) (ltb 0 (length (map f l))) (length (map f l)) k h (omega (arith, length-map l f)) (ap (lexlt (map f l)) (suffix k) ∙ e)
+
+  pub all-greater : (k : ℕ) → length l ≤ k → fromOne (smallerThanSuffix (map f l)) k ≡ true → lyndon (map f l) ≡ ltb 0 (length l)
+  unfolding lyndon
+  all-greater k h p =
+      all-tried (smallerThanSuffix (map f l)) (ltb 0 (length (map f l))) (length (map f l)) k (omega (arith, length-map l f)) p ∙ ap (ltb 0) (length-map l f)
 
 -- ---- the longest Lyndon word from a place on
 
@@ -108,7 +123,7 @@ whole-rest f s i k e = ap (longestTo f s i) (length-drop i (map f s) ∙ ap (λ 
 
 module _ (f : ℕ → ℕ) (s : List ℕ) (i : ℕ) where
   word : (k m : ℕ) → m ≡ k → lyndon (take k (drop i (map f s))) ≡ lyndon (map f (take m (drop i s)))
-  word k m e = ap lyndon (ap (take k) (drop-map f i s) ∙ take-map f k (drop i s) ∙ ap (λ (n : ℕ). map f (take n (drop i s))) (sym e))
+  word k m e = ap lyndon (stretch f s i k ∙ ap (λ (n : ℕ). map f (take n (drop i s))) (sym e))
 
   pub found : (k m : ℕ) → 0 < k → m ≡ k → lyndon (map f (take m (drop i s))) ≡ true → longestTo f s i k ≡ k
   unfolding greatest

@@ -1,5 +1,7 @@
 // A naive scanner, written apart from the library: the pattern is compared with the text at every place, sample by sample. The program
-// `trials` runs it beside the library's search, and the naive Lyndon words of `words` beside the Lyndon array.
+// `trials` runs it beside the library's search, the naive Lyndon words of `words` beside the Lyndon array, and the naive cuts of `cuts` beside
+// the library's.
+pub mod cuts;
 pub mod words;
 
 ghost use mathlib.Core.Path.{_≡_};
@@ -27,7 +29,7 @@ pub fn scan(pattern: &[u8], text: &[u8], places: &mut [u32]) -> usize
 }
 
 // Writes place i behind n places where it is one, and answers how many there are then.
-fn noted(found: bool, i: usize, n: usize, places: &mut [u32]) -> usize
+pub fn noted(found: bool, i: usize, n: usize, places: &mut [u32]) -> usize
     requires { ⌜ (i ≤ 2047) × (n < length (now places)) ⌝ }
     ensures { λ r. ⌜ r ≡ n + length (cond found (i ∷ []) []) ⌝ }
     ensures { λ _. ⌜ now (places .exit) ≡ cond found (set (now (places .entry)) n i) (now (places .entry)) ⌝ }

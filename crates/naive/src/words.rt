@@ -26,7 +26,7 @@ pub fn longest_at(text: &[u8], i: usize) -> usize
 }
 
 // Whether a word is a Lyndon word: not empty, and smaller than each of its non-empty proper suffixes.
-fn is_lyndon(word: &[u8]) -> bool
+pub fn is_lyndon(word: &[u8]) -> bool
     ensures { λ b. ⌜ b ≡ lyndon (map (rankOf sampleOrder) (now (word .entry))) ⌝ }
 {
     let mut k = 1;
@@ -40,7 +40,7 @@ fn is_lyndon(word: &[u8]) -> bool
 }
 
 // Whether the word x is smaller than the word y: at the first different sample, or as a proper prefix.
-fn is_smaller<'a>(x: &'a [u8], y: &'a [u8]) -> bool
+pub fn is_smaller<'a>(x: &'a [u8], y: &'a [u8]) -> bool
     ensures { λ b. ⌜ b ≡ lexlt (map (rankOf sampleOrder) (now (x .entry))) (map (rankOf sampleOrder) (now (y .entry))) ⌝ }
 {
     let mut i = 0;

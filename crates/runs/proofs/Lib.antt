@@ -1,5 +1,4 @@
-pub mod Differences
 pub mod Runs
 pub mod Starts
-pub mod Scan
+pub mod Scanning
 pub mod Samples

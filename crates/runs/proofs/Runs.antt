@@ -11,7 +11,7 @@ use Rattle.lists.specs.Numbers.{split-lt}
 use Rattle.lists.specs.Parts.{drop-take}
 use Rattle.lyndon.specs.Lexical.{Dif, dif-append}
 use Rattle.runs.specs.Runs.{Least, Repeats}
-use Rattle.runs.proofs.Differences.{dif-behind, dif-raise}
+use Rattle.lyndon.specs.Differences.{dif-behind, dif-raise}
 
 -- one symbol
 pub run-first : (s : List ℕ) → 0 < length s → Repeats s 1 0

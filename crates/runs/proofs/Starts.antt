@@ -10,7 +10,7 @@ use lib.Seq.{drop-drop}
 use Rattle.lists.specs.Numbers.{split-le, split-lt}
 use Rattle.lyndon.specs.Lexical.{Dif}
 use Rattle.runs.specs.Runs.{Least, Best}
-use Rattle.runs.proofs.Differences.{dif-irrefl, dif-trans, dif-front, dif-whole}
+use Rattle.lyndon.specs.Differences.{dif-irrefl, dif-trans, dif-front, dif-whole}
 use Rattle.runs.proofs.Runs.{least-tail}
 
 -- s begins with a copy of n symbols

@@ -1,12 +1,11 @@
--- Runs of a string, which cuts are live from a place on, and what a scan by runs has reached.
+-- Runs of a string, which cuts are live from a place on, what a scan by runs has reached, and the listed cuts of a run.
 use mathlib.Core.Path.{_≡_}
-use mathlib.Core.Bool.{Bool, true, false, _&&_}
+use mathlib.Core.Bool.{true, cond, _&&_}
 use mathlib.Core.Logic.{_↔_}
-use mathlib.Core.List.{List, [], _∷_, _++_}
-use Prim.Native.Nat.{ℕ, _+_, _-_, _*_, _≤_, _<_, min}
+use mathlib.Core.List.{List, [], _∷_}
+use Prim.Native.Nat.{ℕ, _+_, _-_, _≤_, _<_}
 use lib.ListN.{length, take, drop, getD}
-use lib.Dec.{leb, eqb}
-use Rattle.definitions.specs.Words.{below}
+use lib.Dec.{ltb, eqb}
 use Rattle.definitions.specs.Occurrences.{isLive}
 use Rattle.lyndon.specs.Lexical.{Dif}
 
@@ -37,23 +36,22 @@ pub record Stopped (s : List ℕ) (start back end : ℕ) : Type 0 where
 abbrev pub Best : List ℕ → ℕ → Type 0
 Best s c = (d : ℕ) → Dif (drop d s) (drop c s) → ⊥
 
--- a copy of the run from `start` up to `end` is left, and the run reaches the end of n symbols
-unfoldable pub atEnd : ℕ → ℕ → ℕ → ℕ → Bool
-atEnd start back end n = leb start back && eqb end n
+-- which cuts are live from `start` on is a matter of the symbols from there on
+abbrev pub LiveFrom : List ℕ → ℕ → Type 0
+LiveFrom s start = (c : ℕ) → start + c < length s → isLive s (start + c) ≡ true ↔ Best (drop start s) c
 
--- the scan has reached `start`: which cuts are live from there on is a matter of the symbols from there on
-pub record Reached (s : List ℕ) (start back end : ℕ) : Type 0 where
+-- the scan has reached `start`: that is so, and `start`, if it is live, is listed
+pub record Reached (s : List ℕ) (start : ℕ) : Type 0 where
   pub inside : start ≤ 1 + (length s - 1)
-  pub rest : (c : ℕ) → start + c < length s → isLive s (start + c) ≡ true ↔ Best (drop start s) c
-  pub stopped : start < length s → start ≤ back → Stopped s start back end
+  pub live : LiveFrom s start
+  pub apart : (d : ℕ) → isLive s d ≡ true → d < start → length s - start ≤ start - d
 
--- falls with every step of the scan over n symbols: those left, and whether a run is to be scanned there
-abbrev pub ahead : ℕ → ℕ → ℕ → ℕ
-ahead n start back = 2 * (n - start) + min 1 (start - back)
+-- whole copies of the run are left, one after the other, up to a place
+pub data Copies (start back end : ℕ) : ℕ → Type 0 where
+  no-copy : Copies start back end start
+  copy-more : (c : ℕ) → Copies start back end c → c ≤ back → Copies start back end (c + (end - back))
 
--- a step of the scan, to start′: the start it left is the one live cut passed where its run reached the end, else there is none
-pub record Moved (s : List ℕ) (start back end start′ back′ end′ : ℕ) : Type 0 where
-  pub less : ahead (length s) start′ back′ < ahead (length s) start back
-  pub reached : Reached s start′ back′ end′
-  pub one : atEnd start back end (length s) ≡ true → below (isLive s) start′ ≡ below (isLive s) start ++ (start ∷ [])
-  pub none : atEnd start back end (length s) ≡ false → below (isLive s) start′ ≡ below (isLive s) start
+-- the listed cuts of the run in n symbols, `place` being behind its whole copies: if it reaches the end its start, and the start of its last copy, if
+-- that is another one and nothing follows it
+unfoldable pub runCuts : ℕ → ℕ → ℕ → ℕ → ℕ → List ℕ
+runCuts start back end place n = cond (ltb end n) [] (start ∷ cond (ltb start back && eqb place n) (back ∷ []) [])

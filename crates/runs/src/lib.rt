@@ -1,65 +1,28 @@
-// The runs of a pattern, one after the other: at which of them live cuts are passed.
+// The runs of a pattern, one after the other, by which its listed cuts are found.
 //
 // Duval's factorization of the pattern from sample 1 on. A run is a Lyndon word, whole copies of it, and a front of it, scanned as far as
-// it goes. Then it is left copy by copy: no cut inside a copy is live but, where the run reaches the pattern's end, the copy's start.
-// The front is scanned again. Comparisons and copies together are fewer than two a sample; Lyndon words of two samples that fall, which
-// begin a run with every second sample, are the slowest known. No scratch memory.
+// it goes. Then its whole copies are left; the front is scanned again. Where the run reaches the pattern's end, the starts of its whole copies are
+// live, and no other cut from its start up to its front is; of these the first is listed, and the last if no front follows it. Comparisons and copies together
+// are fewer than two a sample; Lyndon words of two samples that fall, which begin a run with every second sample, are the slowest known. No
+// scratch memory.
 use definitions::Order;
 use ranks::rank_of;
 ghost use mathlib.Core.Path.{_≡_};
 ghost use mathlib.Core.List.{map};
-ghost use Prim.Native.Nat.{_<_};
+ghost use Prim.Native.Nat.{_≤_, _<_};
 ghost use lib.ListN.{length};
 ghost use Rattle.definitions.specs.Table.{rankOf};
-ghost use Rattle.runs.specs.Runs.{atEnd, Stopped, Reached, Moved};
+ghost use Rattle.runs.specs.Runs.{Stopped, Copies};
 
-// The run from `start` up to `end`, or what is left of it. `back` and `end` are a copy apart; with `back` before `start` no whole copy
-// is left.
+// The run from `start` up to `end`; `back` and `end` are a copy apart.
 pub struct Run {
     pub start: usize,
     pub back: usize,
     pub end: usize,
 }
 
-// Where the scan starts: at sample 1, with no run scanned.
-pub fn first() -> Run
-    ensures { λ r. ⌜ (r .start ≡ 1) × (r .back ≡ 0) × (r .end ≡ 0) ⌝ }
-{
-    Run {
-        start: 1,
-        back: 0,
-        end: 0,
-    }
-}
-
-// Whether a whole copy of the run is left and the run reaches the end of m samples: its start is then a live cut.
-pub fn at_end(run: Run, m: usize) -> bool
-    ensures { λ r. ⌜ r ≡ atEnd (run .start) (run .back) (run .end) m ⌝ }
-{
-    if run.start <= run.back {
-        return run.end == m;
-    }
-    false
-}
-
-// The run without its first copy; without any, the run that starts there, as far as it goes.
-pub fn next(order: Order, pattern: &[u8], run: Run) -> Run
-    requires { ⌜ Reached (map (rankOf order) (now pattern)) (run .start) (run .back) (run .end) × (run .start < length (now pattern)) ⌝ }
-    ensures { λ r. ⌜ Moved (map (rankOf order) (now (pattern .entry))) (run .start) (run .back) (run .end) (r .start) (r .back) (r .end) ⌝ }
-{
-    if run.start <= run.back {
-        let start = run.start + (run.end - run.back);
-        return Run {
-            start,
-            back: run.back,
-            end: run.end,
-        };
-    }
-    extend(order, pattern, run.start)
-}
-
 // The run that starts at a place, as far as it goes. A sample greater than the one a copy before it makes all of the run one word.
-fn extend(order: Order, pattern: &[u8], start: usize) -> Run
+pub fn scan(order: Order, pattern: &[u8], start: usize) -> Run
     requires { ⌜ start < length (now pattern) ⌝ }
     ensures { λ r. ⌜ (r .start ≡ start) × Stopped (map (rankOf order) (now (pattern .entry))) start (r .back) (r .end) ⌝ }
 {
@@ -79,4 +42,16 @@ fn extend(order: Order, pattern: &[u8], start: usize) -> Run
         end += 1;
     }
     Run { start, back, end }
+}
+
+// The place behind the whole copies of a run.
+pub fn behind(run: Run) -> usize
+    requires { ⌜ (run .start ≤ run .back) × (run .back < run .end) ⌝ }
+    ensures { λ r. ⌜ Copies (run .start) (run .back) (run .end) r × (run .back < r) × (r ≤ run .end) ⌝ }
+{
+    let mut place = run.start;
+    while place <= run.back {
+        place += run.end - run.back;
+    }
+    place
 }

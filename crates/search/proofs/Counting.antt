@@ -1,6 +1,6 @@
 -- What is found in a symbol rule is one comparison (`symbol-found`); in a pair rule it is what its halves have, and one
 -- more where its join has a cut (`pair-occurs`, `pair-found`). Storing it changes nothing that was counted, so one rule more is (`counted-more`).
-use mathlib.Core.Path.{_≡_, refl, sym, _∙_, ap, subst}
+use mathlib.Core.Path.{_≡_, refl, sym, _∙_, ap, ap₂, subst}
 use mathlib.Core.Bool.{Bool, true, false, cond, _&&_}
 use mathlib.Core.List.{List, [], _∷_, _++_, map}
 use Prim.Native.Nat.{ℕ, _+_, _/_, _%_, _≤_, _<_, min}
@@ -15,38 +15,40 @@ use Rattle.definitions.specs.Table.{rankOf, tableOf, ruleString, leftHalf, righ
 use Rattle.definitions.specs.Occurrences.{occurrences, straddling}
 use Rattle.lists.specs.Bools.{contra}
 use Rattle.lists.specs.Numbers.{split-lt}
-use Rattle.lists.specs.Parts.{part, part-at}
-use Rattle.lyndon.specs.Joins.{occurrences-join}
+use Rattle.lists.specs.Parts.{part, part-at, part-set-before}
+use Rattle.lyndon.specs.Joins.{triedCuts, occurrences-join}
 use Rattle.lyndon.specs.Occurrences.{occurrences-most, longer-nowhere}
 use Rattle.lyndon.specs.Stored.{rule-range}
-use Rattle.layout.specs.Layout.{TABLE, FOUND, FLAGS, PACK, Readable, lengthIn, placeIn, countIn}
+use Rattle.layout.specs.Layout.{TABLE, FOUND, PATTERN, CUTS, PACK, Readable, lengthIn, placeIn, countIn}
 use Rattle.decoding.specs.declared.Rule.the-variants.{Pair}
 use Rattle.decoding.specs.Decoding.{ruleIn}
 use Rattle.lyndon.specs.Ruled.{SymbolOf, PairOf}
-use Rattle.joins.specs.Joining.{cutPlace, Samples, JoinCut}
+use Rattle.joins.specs.Joining.{cutPlace, JoinCut}
 use Rattle.joins.proofs.Joining.{cut-place-size}
 use Rattle.search.specs.Found.{occursIn, acrossJoin, FoundIn}
-use Rattle.search.specs.Searching.{Counting, CountedBefore, SymbolTurn}
+use Rattle.search.specs.Searching.{Counting, CountedBefore, SymbolTurn, FoundFor}
 use Rattle.search.proofs.Standing.{PlacedHalves, placed-symbol, rule-stands, pair-stands, Outside, placed-outside}
 
 -- ---- a symbol
 
--- whether a pattern is one sample, and that symbol
-abbrev pub isSymbol : Order → List ℕ → ℕ → Bool
-isSymbol o p a = eqb (length p) 1 && eqb (rankOf o (getD p 0 0)) a
+-- whether a pattern of m symbols, the first of which is b, is the one symbol a
+abbrev pub isSymbol : ℕ → ℕ → ℕ → Bool
+isSymbol m b a = eqb m 1 && eqb b a
 
-one-count : (o : Order) (p : List ℕ) (a : ℕ) → 0 < length p → length (occurrences (map (rankOf o) p) (a ∷ [])) ≡ cond (isSymbol o p a) 1 0
+one-count : (p : List ℕ) (a : ℕ) → 0 < length p → length (occurrences p (a ∷ [])) ≡ cond (isSymbol (length p) (getD p 0 0) a) 1 0
 unfolding occurrences below begins
-one-count o [] a h = absurd (omega arith)
-one-count o (b ∷ []) a h = go (eqb (rankOf o b) a)
+one-count [] a h = absurd (omega arith)
+one-count (b ∷ []) a h = go (eqb b a)
   where
     go : (x : Bool) → length (_++_ {A = ℕ} (cond (x && true) (0 ∷ []) []) []) ≡ cond (eqb 1 1 && x) 1 0
     go true = refl
     go false = refl
-one-count o (b ∷ c ∷ q) a h =
-    ap length (longer-nowhere (map (rankOf o) (b ∷ c ∷ q)) (a ∷ []) (omega (arith, length-map (b ∷ c ∷ q) (rankOf o)))) ∙ rw (ne-eqb (length (b ∷ c ∷ q)) 1 (λ e. omega arith))
+one-count (b ∷ c ∷ q) a h = ap length (longer-nowhere (b ∷ c ∷ q) (a ∷ []) (omega arith)) ∙ rw (ne-eqb (length (b ∷ c ∷ q)) 1 (λ e. omega arith))
 
-module _ {o : Order} {p : List ℕ} {r : ℕ} {w : List ℕ} (h : SymbolTurn o p r w) where
+module _ {m r : ℕ} {w : List ℕ} (h : SymbolTurn m r w) where
+  abbrev o : Order
+  o = h .turn .order
+
   symbol : SymbolOf (tableOf o (h .turn .text) (h .turn .chair)) r (h .number) (h .beside)
   symbol = placed-symbol o (h .turn .text) (h .turn .chair) w (h .turn .counting .loaded) r (h .turn .low) (h .number) (h .beside) (h .rule)
 
@@ -63,16 +65,20 @@ module _ {o : Order} {p : List ℕ} {r : ℕ} {w : List ℕ} (h : SymbolTurn o p
   pub symbol-place : placeIn w r < 2048
   symbol-place = omega (arith, ap length (symbol .string o), rule-stands o (h .turn .text) (h .turn .chair) w (h .turn .counting .loaded) r (h .turn .low) .0)
 
-  pub symbol-found : (x : ℕ) (b : Bool) → isSymbol o p (getD w (placeIn w r) 0) ≡ b → x / PACK ≡ cond b 1 0 → x % PACK ≡ 0
-      → FoundIn o (tableOf o (h .turn .text) (h .turn .chair)) (map (rankOf o) p) r x
+  pub symbol-found : (x : ℕ) (b : Bool) → isSymbol m (getD w PATTERN 0) (getD w (placeIn w r) 0) ≡ b → x / PACK ≡ cond b 1 0 → x % PACK ≡ 0 → FoundFor (h .turn) x
   unfolding occursIn
   symbol-found x b e f z =
+      let k = h .turn .counting in
+      let P = map (rankOf o) (h .turn .samples) in
+      let size : length P ≡ m = length-map (h .turn .samples) (rankOf o) ∙ sym (k .size) in
+      let here : PATTERN + 0 ≡ PATTERN = omega arith in
+      let first : getD P 0 0 ≡ getD w PATTERN 0 = ap (λ (l : List ℕ). getD l 0 0) (sym (k .ranks)) ∙ part-at PATTERN m w 0 0 (k .tried .filled) ∙ ap (λ (i : ℕ). getD w i 0) here in
       let a = getD w (placeIn w r) 0 in
       record {
         number =
             f
-            ∙ sym (one-count o p a (h .turn .counting .pattern .filled) ∙ ap (λ (y : Bool). cond y 1 0) e)
-            ∙ ap (λ (s : List ℕ). length (occurrences (map (rankOf o) p) s)) (sym symbol-stands);
+            ∙ sym (one-count P a (omega (arith, k .tried .filled)) ∙ ap₂ {C = ℕ} (λ (i d : ℕ). cond (isSymbol i d a) 1 0) size first ∙ ap (λ (y : Bool). cond y 1 0) e)
+            ∙ ap (λ (s : List ℕ). length (occurrences P s)) (sym symbol-stands);
         inside = λ q. contra q (symbol .no-pair);
         cut = λ q. contra q (symbol .no-pair);
         no-cut = λ q. z;
@@ -112,25 +118,27 @@ pub record PairKnown (u v x : ℕ) (w : List ℕ) : Type 0 where
   pub left : Readable w u
   pub right : Readable w v
   pub inside : x + lengthIn w u + lengthIn w v ≤ 2048
-  pub samples : Samples (x + lengthIn w u + lengthIn w v) w
   pub most : countIn w u + countIn w v ≤ 4096
 
-module _ {o : Order} {p : List ℕ} {r : ℕ} {w : List ℕ} (h : CountedBefore o p r w) where
+module _ {m n r : ℕ} {w : List ℕ} (h : CountedBefore m n r w) where
+  abbrev ord : Order
+  ord = h .order
+
   pub turn-known : Readable w r
   turn-known =
-      let n = rule-range o (h .text) (h .chair) (h .counting .loaded .kept .stored) in
+      let n = rule-range ord (h .text) (h .chair) (h .counting .loaded .kept .stored) in
       record { low = omega (arith, h .low); long = h .counting .loaded .kept .long }
 
   module _ (u v : ℕ) (e : ruleIn w r ≡ Pair u v) where
-    halves-here : PlacedHalves o (tableOf o (h .text) (h .chair)) r u v w
-    halves-here = pair-stands o (h .text) (h .chair) w (h .counting .loaded) r (h .low) u v e
+    halves-here : PlacedHalves ord (tableOf ord (h .text) (h .chair)) r u v w
+    halves-here = pair-stands ord (h .text) (h .chair) w (h .counting .loaded) r (h .low) u v e
 
     pub pair-known : PairKnown u v (placeIn w r) w
     unfolding occursIn
     pair-known =
         let k = halves-here in
-        let t = tableOf o (h .text) (h .chair) in
-        let P = map (rankOf o) p in
+        let t = tableOf ord (h .text) (h .chair) in
+        let P = map (rankOf ord) (h .samples) in
         let left = k .pair .left in
         let right = k .pair .right in
         let low = turn-known .low in
@@ -140,26 +148,24 @@ module _ {o : Order} {p : List ℕ} {r : ℕ} {w : List ℕ} (h : CountedBefore 
           left = record { low = omega arith; long = turn-known .long };
           right = record { low = omega arith; long = turn-known .long };
           inside = k .inside;
-          samples = k .samples;
-          most = omega (arith, a, b, occurrences-most P (ruleString o t u), occurrences-most P (ruleString o t v), k .inside, k .left-size, k .right-size);
+          most = omega (arith, a, b, occurrences-most P (ruleString ord t u), occurrences-most P (ruleString ord t v), k .inside, k .left-size, k .right-size);
         }
 
     pub pair-found : (at left right c x : ℕ) → at ≡ placeIn w r → left ≡ lengthIn w u → right ≡ lengthIn w v
-        → JoinCut (map (rankOf o) p) (part at left w) (part (at + left) right w) c → x / PACK ≡ countIn w u + countIn w v + min 1 c → x % PACK ≡ c
-        → FoundIn o (tableOf o (h .text) (h .chair)) (map (rankOf o) p) r x
+        → JoinCut (part PATTERN m w) (part at left w) (part (at + left) right w) c → x / PACK ≡ countIn w u + countIn w v + min 1 c → x % PACK ≡ c → FoundFor h x
     unfolding acrossJoin
-    pair-found at left right c x i m n j e f =
+    pair-found at left right c x i a b j e f =
         let k = halves-here in
-        let t = tableOf o (h .text) (h .chair) in
-        let P = map (rankOf o) p in
-        let a = h .counting .found u (k .pair .left) .number in
-        let b = h .counting .found v (k .pair .right) .number in
-        let cut : JoinCut P (leftHalf o t r) (rightHalf o t r) c = rw (i, m, n, k .left-part, k .right-part) at j in
-        let filled : 0 < length P = omega (arith, length-map p (rankOf o), h .counting .pattern .filled) in
+        let t = tableOf ord (h .text) (h .chair) in
+        let P = map (rankOf ord) (h .samples) in
+        let y = h .counting .found u (k .pair .left) .number in
+        let z = h .counting .found v (k .pair .right) .number in
+        let cut : JoinCut P (leftHalf ord t r) (rightHalf ord t r) c = rw (i, a, b, k .left-part, k .right-part, h .counting .ranks) at j in
+        let filled : 0 < length P = omega (arith, length-map (h .samples) (rankOf ord), h .counting .pattern .filled) in
         record {
-          number = e ∙ omega (arith, a, b, pair-counts o t P r u v (lengthIn w u) c (k .pair) (k .left-size) filled (cut .place (k .std)));
+          number = e ∙ omega (arith, y, z, pair-counts ord t P r u v (lengthIn w u) c (k .pair) (k .left-size) filled (cut .place (k .std)));
           inside = λ q. omega (arith, cut .inside);
-          cut = λ q. cut .place (k .std) ∙ ap (cutPlace (length (leftHalf o t r))) (sym f);
+          cut = λ q. cut .place (k .std) ∙ ap (cutPlace (length (leftHalf ord t r))) (sym f);
           no-cut = λ q. contra (k .pair .is-pair) q;
         }
 
@@ -173,30 +179,39 @@ outside-set w j x h k =
       behind = drop-set-lt TABLE w j x k;
     }
 
-counted-more : (o : Order) (p text : List ℕ) (chair n : ℕ) (w : List ℕ) (x : ℕ) → Counting o p text chair n w → n < ruleCount (tableOf o text chair)
-    → FoundIn o (tableOf o text chair) (map (rankOf o) p) n x → Counting o p text chair (n + 1) (set w (FOUND + n) x)
-counted-more o p text chair n w x h low f =
+counted-more : (o : Order) (p text : List ℕ) (chair m n r : ℕ) (w : List ℕ) (x : ℕ) → Counting o p text chair m n r w → r < ruleCount (tableOf o text chair)
+    → FoundIn o (tableOf o text chair) (map (rankOf o) p) r x → Counting o p text chair m n (r + 1) (set w (FOUND + r) x)
+counted-more o p text chair m n r w x h low f =
     let most = rule-range o text chair (h .loaded .kept .stored) in
     let long = h .loaded .kept .long in
+    let ranks : part PATTERN m (set w (FOUND + r) x) ≡ part PATTERN m w = part-set-before PATTERN m w (FOUND + r) x (omega arith) in
     record {
-      loaded = placed-outside o text chair w (set w (FOUND + n) x) (outside-set w (FOUND + n) x (omega arith) (omega arith)) (h .loaded);
+      loaded = placed-outside o text chair w (set w (FOUND + r) x) (outside-set w (FOUND + r) x (omega arith) (omega arith)) (h .loaded);
       pattern = h .pattern;
-      flagged = λ c m e. h .flagged c m (sym (getD-set-other w (FOUND + n) (FLAGS + c) x 0 (λ q. omega arith)) ∙ e);
-      found = λ r l. split-lt r n
-          (λ k. subst (λ (y : ℕ). FoundIn o (tableOf o text chair) (map (rankOf o) p) r y) (sym (getD-set-other w (FOUND + n) (FOUND + r) x 0 (λ q. omega arith))) (h .found r k))
-          (λ q. subst (λ (i : ℕ). FoundIn o (tableOf o text chair) (map (rankOf o) p) i (getD (set w (FOUND + n) x) (FOUND + i) 0)) (sym q) (subst (λ (y : ℕ). FoundIn o (tableOf o text chair) (map (rankOf o) p) n y) (sym (getD-set-same w (FOUND + n) x 0 (omega arith))) f))
+      size = h .size;
+      ranks = ranks ∙ h .ranks;
+      tried =
+          record {
+            filled = h .tried .filled;
+            short = h .tried .short;
+            few = h .tried .few;
+            cuts = part-set-before CUTS n w (FOUND + r) x (omega arith) ∙ h .tried .cuts ∙ ap triedCuts (sym ranks);
+          };
+      found = λ q l. split-lt q r
+          (λ k. subst (λ (y : ℕ). FoundIn o (tableOf o text chair) (map (rankOf o) p) q y) (sym (getD-set-other w (FOUND + r) (FOUND + q) x 0 (λ e. omega arith))) (h .found q k))
+          (λ e. subst (λ (i : ℕ). FoundIn o (tableOf o text chair) (map (rankOf o) p) i (getD (set w (FOUND + r) x) (FOUND + i) 0)) (sym e) (subst (λ (y : ℕ). FoundIn o (tableOf o text chair) (map (rankOf o) p) r y) (sym (getD-set-same w (FOUND + r) x 0 (omega arith))) f))
           (λ k. absurd (omega arith));
     }
 
--- whatever text is loaded in w₀, its first n rules are counted in w
-abbrev pub Counted : Order → List ℕ → ℕ → ℕ → List ℕ → List ℕ → Type 0
-Counted o p rules n w₀ w =
-    (text : List ℕ) (chair : ℕ) → Counting o p text chair 0 w₀ → rules ≡ ruleCount (tableOf o text chair) → Counting o p text chair n w
+-- whatever text is loaded in w₀ and whatever the pattern is, the first r rules are counted in w
+abbrev pub Counted : ℕ → ℕ → ℕ → ℕ → List ℕ → List ℕ → Type 0
+Counted m n rules r w₀ w =
+    (o : Order) (p text : List ℕ) (chair : ℕ) → Counting o p text chair m n 0 w₀ → rules ≡ ruleCount (tableOf o text chair) → Counting o p text chair m n r w
 
-pub counted-turn : (o : Order) (p : List ℕ) (rules n : ℕ) (w₀ w v : List ℕ) (x : ℕ) → n < rules → Counted o p rules n w₀ w
-    → ((h : CountedBefore o p n w) → FoundIn o (tableOf o (h .text) (h .chair)) (map (rankOf o) p) n x) → v ≡ set w (FOUND + n) x → Counted o p rules (n + 1) w₀ v
-counted-turn o p rules n w₀ w v x l h f e text chair k s =
-    let low : n < ruleCount (tableOf o text chair) = omega arith in
-    let c = h text chair k s in
-    subst (Counting o p text chair (n + 1)) (sym e)
-    (counted-more o p text chair n w x c low (f (record { text = text; chair = chair; counting = c; low = low })))
+pub counted-turn : (m n rules r : ℕ) (w₀ w v : List ℕ) (x : ℕ) → r < rules → Counted m n rules r w₀ w
+    → ((h : CountedBefore m n r w) → FoundFor h x) → v ≡ set w (FOUND + r) x → Counted m n rules (r + 1) w₀ v
+counted-turn m n rules r w₀ w v x l h f e o p text chair k s =
+    let low : r < ruleCount (tableOf o text chair) = omega arith in
+    let c = h o p text chair k s in
+    subst (Counting o p text chair m n (r + 1)) (sym e)
+    (counted-more o p text chair m n r w x c low (f (record { order = o; samples = p; text = text; chair = chair; counting = c; low = low })))

@@ -9,10 +9,9 @@ use lib.ListN.{length, take, drop, getD}
 use lib.Seq.{getD-take}
 use Rattle.definitions.specs.declared.Order.{Order}
 use Rattle.definitions.specs.Table.{marked, tableOf, ruleString, leftHalf, rightHalf, ruleCount}
-use Rattle.lists.specs.Members.{at-in}
-use Rattle.lists.specs.Parts.{part, part-at, part-part, part-agree}
+use Rattle.lists.specs.Parts.{part, part-part, part-agree}
 use Rattle.lyndon.specs.Factorization.{Std}
-use Rattle.lyndon.specs.Ranks.{marked-length, behind-mark, marked-symbols}
+use Rattle.lyndon.specs.Ranks.{marked-length}
 use Rattle.lyndon.specs.Stored.{rule-range, table-accepted}
 use Rattle.lyndon.specs.Pairs.{pair-halves}
 use Rattle.layout.specs.Layout.{TABLE, LENGTHS, PLACES, FOUND, lengthIn, placeIn}
@@ -22,13 +21,11 @@ use Rattle.decoding.specs.Decoding.{ruleIn}
 use Rattle.lyndon.specs.Ruled.{SymbolOf, PairOf}
 use Rattle.lyndon.specs.Filling.{Stands, half-places}
 use Rattle.state.proofs.Rules.{kept-symbol, kept-pair}
-use Rattle.joins.specs.Joining.{Samples}
 
 -- what a rule that is a pair says: its halves are earlier rules, and stand one behind the other
 pub record PlacedHalves (o : Order) (t : List ℕ) (r u v : ℕ) (w : List ℕ) : Type 0 where
   pub pair : PairOf t r u v
   pub inside : placeIn w r + lengthIn w u + lengthIn w v ≤ 2048
-  pub samples : Samples (placeIn w r + lengthIn w u + lengthIn w v) w
   pub left-size : lengthIn w u ≡ length (ruleString o t u)
   pub right-size : lengthIn w v ≡ length (ruleString o t v)
   pub left-part : part (placeIn w r) (lengthIn w u) w ≡ leftHalf o t r
@@ -51,16 +48,6 @@ module _ (o : Order) (text : List ℕ) (chair : ℕ) (w : List ℕ) (h : Loaded 
             ∙ s .same,
       )
 
-  -- behind the mark there are ranks of samples
-  samples-here : Samples (suc (length text)) w
-  samples-here i z l =
-      let e : getD w i 0 ≡ getD (marked o text) i 0
-      = sym (part-at 0 (suc (length text)) w i 0 l ∙ ap (λ (j : ℕ). getD w j 0) (zero-add i)) ∙ ap (λ (x : List ℕ). getD x i 0) (h .kept .ranks) in
-      rw e (
-        behind-mark o text (h .kept .stored .bytes) i z (omega arith),
-        marked-symbols o text (h .kept .stored .bytes) (getD (marked o text) i 0) (at-in (marked o text) i (omega (arith, marked-length o text))),
-      )
-
   pub rule-stands : (placeIn w r + length (ruleString o (tableOf o text chair) r) ≤ 2048)
       × (part (placeIn w r) (length (ruleString o (tableOf o text chair) r)) w ≡ ruleString o (tableOf o text chair) r)
   rule-stands = stands-here r (placeIn w r) (h .places r low)
@@ -76,7 +63,6 @@ module _ (o : Order) (text : List ℕ) (chair : ℕ) (w : List ℕ) (h : Loaded 
       record {
         pair = p;
         inside = omega (arith, stands-here v (x + length (ruleString o t u)) b .0);
-        samples = λ i z l. samples-here i z (omega (arith, b .inside, marked-length o text));
         left-size = la;
         right-size = lb;
         left-part = ap (λ (n : ℕ). part x n w) la ∙ stands-here u x a .1 ∙ sym (p .left-half o);

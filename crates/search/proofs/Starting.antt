@@ -1,79 +1,95 @@
--- Where counting starts: the flags of the live cuts are written into their area, and nothing else changes (`counting-start`). Where it
+-- Where counting starts: the ranks of the pattern and its listed cuts are written into their areas, and nothing else changes (`counting-start`). Where it
 -- ends: the root's string is the marked text, so its number is that of the text (`counted-text`).
-use mathlib.Core.Path.{_≡_, sym, _∙_, ap}
-use mathlib.Core.List.{List, _++_, map, append-assoc, List·Memᴰ as In}
+use mathlib.Core.Path.{_≡_, refl, sym, _∙_, ap, ap₂, subst}
+use mathlib.Core.List.{List, _++_, map}
 use Prim.Native.Nat.{ℕ, suc, _+_, _-_, _≤_, _<_}
 use native.Mathlib.Omega.{arith}
 use lib.ListN.{length, take, drop, getD, length-take, length-drop, length-map}
-use lib.Seq.{length-take-le, drop-at}
 use Rattle.definitions.specs.declared.Order.{Order}
 use Rattle.definitions.specs.Words.{placed}
 use Rattle.definitions.specs.Table.{rankOf, tableOf, spelled, ruleCount}
-use Rattle.definitions.specs.Occurrences.{isLive, liveCuts, occurrences}
-use Rattle.lists.specs.Bools.{cond-true}
+use Rattle.definitions.specs.Occurrences.{occurrences, patternCuts}
 use Rattle.lists.specs.Lists.{placed-length}
-use Rattle.lists.specs.Numbers.{below-lt}
-use Rattle.lists.specs.Parts.{part, part-at, part-front, lent-length, lent-before, lent-behind}
-use Rattle.lyndon.specs.Cuts.{live-cut}
-use Rattle.lyndon.specs.Joins.{triedCuts, tried-live}
+use Rattle.lists.specs.Parts.{part, part-agree, lent-length, lent-before, lent-behind, lent-part}
+use Rattle.lyndon.specs.Joins.{triedCuts}
 use Rattle.lyndon.specs.Ranks.{slice-bytes}
 use Rattle.lyndon.specs.Stored.{table-spelled}
 use Rattle.lyndon.specs.Occurrences.{occurrences-marked}
-use Rattle.layout.specs.Layout.{TABLE, FOUND, FLAGS, countIn}
-use Rattle.cuts.specs.Flags.{patternFlags}
-use Rattle.cuts.proofs.Flags.{pattern-flags-length, pattern-flag-at}
+use Rattle.layout.specs.Layout.{TABLE, FOUND, PATTERN, CUTS, countIn}
 use Rattle.state.specs.State.{Loaded}
 use Rattle.search.specs.Found.{occursIn}
 use Rattle.search.specs.Searching.{Pattern, Counting, Searched}
-use Rattle.search.proofs.Standing.{placed-outside}
+use Rattle.search.proofs.Standing.{Outside, placed-outside}
 
 pub pattern-here : (p : List ℕ) → 0 < length p → length p ≤ 2047 → ((i : ℕ) → i < length p → getD p i 0 < 256) → Pattern p
 pattern-here p h k b = record { filled = h; short = k; bytes = slice-bytes p b }
 
--- ---- flags
-
--- the flags of the live cuts, which stand from FLAGS on, are flags of those that are tried
-tried-flagged : (o : Order) (p w : List ℕ) → part FLAGS (length p) w ≡ patternFlags o p → (c : ℕ) → In c (triedCuts (map (rankOf o) p)) → getD w (FLAGS + c) 0 ≡ 0 → ⊥
-unfolding liveCuts
-tried-flagged o p w e c m z =
-    let P : List ℕ = map (rankOf o) p in
-    let (k, l) = below-lt (isLive P) (length P) c (live-cut P c .1 (tried-live P c m)) in
-    let h : c < length p = omega (arith, length-map p (rankOf o)) in
-    omega (arith, sym z ∙ sym (part-at FLAGS (length p) w c 0 h) ∙ ap (λ (x : List ℕ). getD x c 0) e ∙ pattern-flag-at o p c h ∙ cond-true (isLive P c) 1 0 l)
-
 -- ---- the start
 
-pub counting-start : (o : Order) (p text : List ℕ) (chair : ℕ) (w z : List ℕ) (n : ℕ) → Loaded o text chair w → Pattern p → n ≡ 2048
-    → z ≡ placed (patternFlags o p) (take n (drop FLAGS w)) → Counting o p text chair 0 (take FLAGS w ++ (z ++ drop n (drop FLAGS w)))
-unfolding placed
-counting-start o p text chair w z n h q e f =
+-- n words from o on are lent, and l is written at their front
+module _ (w l z : List ℕ) (o n : ℕ) (low : FOUND ≤ o) (high : o + n ≤ TABLE) (long : TABLE ≤ length w) (room : length l ≤ n)
+    (e : z ≡ placed l (take n (drop o w))) where
+  size : length z ≡ n
+  size =
+      let lent : length (take n (drop o w)) ≡ n = simp (length-take, length-drop) (omega arith) in
+      ap length e ∙ placed-length l (take n (drop o w)) (omega arith) ∙ lent
+
+  lent-outside : Outside w (take o w ++ (z ++ drop n (drop o w)))
+  lent-outside =
+      record {
+        size = lent-length w z o n (omega arith) size;
+        before = lent-before w z o n (omega arith) size FOUND low;
+        behind = lent-behind w z o n (omega arith) size TABLE high;
+      }
+
+  lent-here : part o (length l) (take o w ++ (z ++ drop n (drop o w))) ≡ l
+  lent-here = lent-part w z o n (omega arith) size l e
+
+  lent-earlier : take o (take o w ++ (z ++ drop n (drop o w))) ≡ take o w
+  lent-earlier = lent-before w z o n (omega arith) size o (omega arith)
+
+tried-cuts : (o : Order) (p : List ℕ) → triedCuts (map (rankOf o) p) ≡ patternCuts o p
+unfolding triedCuts patternCuts
+tried-cuts o p = refl
+
+-- the pattern's ranks are written to v, and then its n cuts
+pub counting-start : (o : Order) (p text : List ℕ) (chair : ℕ) (w z v y : List ℕ) (m k n : ℕ) → Loaded o text chair w → Pattern p → m ≡ length p
+    → z ≡ placed (map (rankOf o) p) (take m (drop PATTERN w)) → v ≡ take PATTERN w ++ (z ++ drop m (drop PATTERN w))
+    → n ≡ length (patternCuts o p) → length (patternCuts o p) ≤ k → k ≤ 11 → y ≡ placed (patternCuts o p) (take k (drop CUTS v))
+    → Counting o p text chair (length p) n 0 (take CUTS v ++ (y ++ drop k (drop CUTS v)))
+counting-start o p text chair w z v y m k n h q e f g c few most d =
     record {
-      loaded = placed-outside o text chair w v (record { size = lent-length w z FLAGS n fits size; before = lent-before w z FLAGS n fits size FOUND (omega arith); behind = lent-behind w z FLAGS n fits size TABLE (omega arith) }) h;
+      loaded = placed-outside o text chair v x cuts-outside (placed-outside o text chair w v ranks-outside h);
       pattern = q;
-      flagged = tried-flagged o p v flags;
+      size = refl;
+      ranks = ranks;
+      tried = record { filled = q .filled; short = q .short; few = omega arith; cuts = ap (λ (i : ℕ). part CUTS i x) c ∙ cuts ∙ sym (ap triedCuts ranks ∙ tried-cuts o p) };
       found = λ r l. absurd (omega arith);
     }
   where
-    v : List ℕ
-    v = take FLAGS w ++ (z ++ drop n (drop FLAGS w))
+    x : List ℕ
+    x = take CUTS v ++ (y ++ drop k (drop CUTS v))
 
-    fits : FLAGS + n ≤ length w
-    fits = omega (arith, h .kept .long)
+    ranks-size : length (map (rankOf o) p) ≡ length p
+    ranks-size = length-map p (rankOf o)
 
-    room : length (take n (drop FLAGS w)) ≡ n
-    room = simp (length-take, length-drop) (omega arith)
+    long : TABLE ≤ length w
+    long = omega (arith, h .kept .long)
 
-    size : length z ≡ n
-    size = ap length f ∙ placed-length (patternFlags o p) (take n (drop FLAGS w)) (omega (arith, pattern-flags-length o p, q .short, room)) ∙ room
+    ranks-outside : Outside w v
+    ranks-outside = subst (Outside w) (sym g) (lent-outside w (map (rankOf o) p) z PATTERN m (omega arith) (omega (arith, q .short)) long (omega (arith, ranks-size)) f)
 
-    flags : part FLAGS (length p) (take FLAGS w ++ (z ++ drop n (drop FLAGS w))) ≡ patternFlags o p
-    flags =
-        let rest = drop (length (patternFlags o p)) (take n (drop FLAGS w)) in
-        part-front FLAGS (length p) v (patternFlags o p) (rest ++ drop n (drop FLAGS w))
-        (drop-at (take FLAGS w) (z ++ drop n (drop FLAGS w)) FLAGS (length-take-le FLAGS w (omega arith))
-        ∙ ap (λ (l : List ℕ). l ++ drop n (drop FLAGS w)) f
-        ∙ append-assoc (patternFlags o p) rest (drop n (drop FLAGS w)))
-        (pattern-flags-length o p)
+    cuts-outside : Outside v (take CUTS v ++ (y ++ drop k (drop CUTS v)))
+    cuts-outside = lent-outside v (patternCuts o p) y CUTS k (omega arith) (omega arith) (omega (arith, ranks-outside .size)) few d
+
+    ranks : part PATTERN (length p) (take CUTS v ++ (y ++ drop k (drop CUTS v))) ≡ map (rankOf o) p
+    ranks =
+        part-agree CUTS PATTERN (length p) v x (lent-earlier v (patternCuts o p) y CUTS k (omega arith) (omega arith) (omega (arith, ranks-outside .size)) few d) (omega (arith, q .short))
+        ∙ ap₂ {C = List ℕ} (λ i l. part PATTERN i l) (sym ranks-size) g
+        ∙ lent-here w (map (rankOf o) p) z PATTERN m (omega arith) (omega (arith, q .short)) long (omega (arith, ranks-size)) f
+
+    cuts : part CUTS (length (patternCuts o p)) (take CUTS v ++ (y ++ drop k (drop CUTS v))) ≡ patternCuts o p
+    cuts = lent-here v (patternCuts o p) y CUTS k (omega arith) (omega arith) (omega (arith, ranks-outside .size)) few d
 
 -- ---- the text
 
@@ -84,13 +100,13 @@ root-occurs o p text chair w h q =
     ap (occurrences (map (rankOf o) p)) (table-spelled o text chair (h .kept .stored))
     ∙ occurrences-marked o p text (q .filled) (q .bytes) (h .kept .stored .bytes)
 
-pub counted-text : (o : Order) (p text : List ℕ) (chair rules : ℕ) (w : List ℕ) → 0 < rules → rules ≡ ruleCount (tableOf o text chair)
-    → Counting o p text chair rules w → countIn w (rules - 1) ≡ length (occurrences p text)
-counted-text o p text chair rules w s e h =
+pub counted-text : (o : Order) (p text : List ℕ) (chair m n rules : ℕ) (w : List ℕ) → 0 < rules → rules ≡ ruleCount (tableOf o text chair)
+    → Counting o p text chair m n rules w → countIn w (rules - 1) ≡ length (occurrences p text)
+counted-text o p text chair m n rules w s e h =
     h .found (rules - 1) (omega arith) .number
     ∙ ap (λ (i : ℕ). length (occursIn o (tableOf o text chair) (map (rankOf o) p) (i - 1))) e
     ∙ ap length (root-occurs o p text chair w (h .loaded) (h .pattern))
     ∙ length-map (occurrences p text) suc
 
-pub counted-all : (o : Order) (p text : List ℕ) (chair rules : ℕ) (w : List ℕ) → rules ≡ ruleCount (tableOf o text chair) → Counting o p text chair rules w → Searched o p text chair w
-counted-all o p text chair rules w e h = record { loaded = h .loaded; pattern = h .pattern; found = λ r l. h .found r (omega arith) }
+pub counted-all : (o : Order) (p text : List ℕ) (chair m n rules : ℕ) (w : List ℕ) → rules ≡ ruleCount (tableOf o text chair) → Counting o p text chair m n rules w → Searched o p text chair w
+counted-all o p text chair m n rules w e h = record { loaded = h .loaded; pattern = h .pattern; found = λ r l. h .found r (omega arith) }

@@ -1,6 +1,6 @@
 // The occurrences of a pattern in the text that is loaded, counted by the rules of its table, from the first rule up.
 //
-// An occurrence in a pair rule lies in one of its halves or straddles its join, and there at a live cut. A rule's string stands
+// An occurrence in a pair rule lies in one of its halves or straddles its join, and there at a listed cut. A rule's string stands
 // somewhere in the text, so a cut costs one comparison; at most n - m + 2 are made for m samples among n. Equal samples cost most.
 use decoding::Rule;
 use decoding::rule_in;
@@ -9,72 +9,84 @@ use joins::areas::length_of;
 use joins::areas::number_of;
 use joins::areas::place_of;
 use joins::cut_at_join;
-use layout::FLAGS;
-use layout::FLAGS_END;
+use layout::CUTS;
 use layout::FOUND;
 use layout::PACK;
-use ranks::rank_of;
+use layout::PATTERN;
 use slices::put;
 ghost use mathlib.Core.Path.{_≡_};
-ghost use mathlib.Core.List.{List, map};
+ghost use mathlib.Core.List.{List};
 ghost use Prim.Native.Nat.{ℕ, _+_, _*_, _/_, _%_, _≤_, _<_};
-ghost use lib.ListN.{length, getD};
-ghost use Rattle.definitions.specs.Table.{rankOf, tableOf, ruleCount};
+ghost use lib.ListN.{length};
+ghost use Rattle.definitions.specs.declared.Order.{Order};
+ghost use Rattle.definitions.specs.Table.{tableOf, ruleCount};
 ghost use Rattle.definitions.specs.Occurrences.{occurrences};
-ghost use Rattle.layout.specs.Layout.{PACK};
+ghost use Rattle.layout.specs.Layout.{PACK, WORK};
 ghost use Rattle.state.specs.State.{Loaded};
-ghost use Rattle.search.specs.Found.{FoundIn};
-ghost use Rattle.search.specs.Searching.{Counting, Searched, Starts, Counts, CountedBefore, SymbolTurn};
+ghost use Rattle.search.specs.Searching.{Counting, Searched, Starts, Counts, CountedBefore, SymbolTurn, FoundFor};
 
 // Counts the occurrences of a pattern in the text that is loaded, whose table has so many rules.
 pub fn count(order: Order, pattern: &[u8], work: &mut [u32], rules: usize) -> usize
     requires { ⌜ Starts order rules (now work) × (0 < length (now pattern)) × (length (now pattern) ≤ 2047) ⌝ }
     ensures { λ n. ⌜ ((text : List ℕ) (chair : ℕ) → Loaded order text chair (now (work .entry)) → rules ≡ ruleCount (tableOf order text chair) → (n ≡ length (occurrences (now (pattern .entry)) text)) × Searched order (now (pattern .entry)) text chair (now (work .exit))) ⌝ }
 {
-    cuts::flag(order, pattern, &mut work[FLAGS..FLAGS_END]);
-    count_rules(order, pattern, work, rules);
+    let n = place_pattern(order, pattern, work);
+    count_rules(work, pattern.len(), n, rules);
     number_of(work, rules - 1)
 }
 
-// Counts the occurrences in every rule, from the first up.
-fn count_rules(order: Order, pattern: &[u8], work: &mut [u32], rules: usize)
-    requires { ⌜ Counts order (now pattern) rules 0 (now work) ⌝ }
-    ensures { λ _. ⌜ ((text : List ℕ) (chair : ℕ) → Counting order (now (pattern .entry)) text chair 0 (now (work .entry)) → rules ≡ ruleCount (tableOf order text chair) → Counting order (now (pattern .entry)) text chair rules (now (work .exit))) ⌝ }
+// Places a pattern's ranks and its listed cuts in the work slice. Answers how many cuts there are.
+fn place_pattern(order: Order, pattern: &[u8], work: &mut [u32]) -> usize
+    requires { ⌜ (0 < length (now pattern)) × (length (now pattern) ≤ 2047) × (WORK ≤ length (now work)) ⌝ }
+    ensures { λ n. ⌜ ((text : List ℕ) (chair : ℕ) → Loaded order text chair (now (work .entry)) → Counting order (now (pattern .entry)) text chair (length (now (pattern .entry))) n 0 (now (work .exit))) ⌝ }
 {
-    let first = rank_of(order, pattern[0]);
+    let m = pattern.len();
+    ranks::write(order, pattern, &mut work[PATTERN..PATTERN + m]);
+    let k = cuts::floor_log2(m);
+    cuts::list(order, pattern, &mut work[CUTS..CUTS + k + 1])
+}
+
+// Counts the occurrences of the pattern, m samples of whose cuts n are tried, in every rule, from the first up.
+fn count_rules(work: &mut [u32], m: usize, n: usize, rules: usize)
+    requires { ⌜ Counts m n rules 0 (now work) ⌝ }
+    ensures { λ _. ⌜ ((o : Order) (p text : List ℕ) (chair : ℕ) → Counting o p text chair m n 0 (now (work .entry)) → rules ≡ ruleCount (tableOf o text chair) → Counting o p text chair m n rules (now (work .exit))) ⌝ }
+{
     let mut r = 0;
     while r < rules {
-        let x = found_in(order, first, pattern, work, r);
+        let x = found_in(work, m, n, r);
         put(work, FOUND + r, x);
         r += 1;
     }
 }
 
-// What is found in rule r: its occurrences times PACK and the cut at its join. `first` is the rank of the pattern's first sample.
-fn found_in(order: Order, first: u32, pattern: &[u8], work: &[u32], r: usize) -> u32
-    requires { ⌜ CountedBefore order (now pattern) r (now work) × (first ≡ rankOf order (getD (now pattern) 0 0)) ⌝ }
-    ensures { λ x. ⌜ ((h : CountedBefore order (now (pattern .entry)) r (now (work .entry))) → FoundIn order (tableOf order (h .text) (h .chair)) (map (rankOf order) (now (pattern .entry))) r x) ⌝ }
+// What is found in rule r: its occurrences times PACK and the cut at its join.
+fn found_in(work: &[u32], m: usize, n: usize, r: usize) -> u32
+    requires { ⌜ CountedBefore m n r (now work) ⌝ }
+    ensures { λ x. ⌜ ((h : CountedBefore m n r (now (work .entry))) → FoundFor h x) ⌝ }
 {
     let rule = rule_in(work, r);
     let Rule::Pair(u, v) = rule else {
-        return found_in_symbol(order, pattern, work, r);
+        return found_in_symbol(work, m, r);
     };
+    let halves = number_of(work, u) + number_of(work, v);
     let left = length_of(work, u);
     let right = length_of(work, v);
-    let joined = cut_at_join(order, first, pattern, work, place_of(work, r), left, right);
-    found(number_of(work, u) + number_of(work, v), joined)
+    found(
+        halves,
+        cut_at_join(work, m, n, place_of(work, r), left, right),
+    )
 }
 
 // The same of a symbol rule: its rank stands where the rule does.
-fn found_in_symbol(order: Order, pattern: &[u8], work: &[u32], r: usize) -> u32
-    requires { ⌜ SymbolTurn order (now pattern) r (now work) ⌝ }
-    ensures { λ x. ⌜ ((h : SymbolTurn order (now (pattern .entry)) r (now (work .entry))) → FoundIn order (tableOf order (h .turn .text) (h .turn .chair)) (map (rankOf order) (now (pattern .entry))) r x) ⌝ }
+fn found_in_symbol(work: &[u32], m: usize, r: usize) -> u32
+    requires { ⌜ SymbolTurn m r (now work) ⌝ }
+    ensures { λ x. ⌜ ((h : SymbolTurn m r (now (work .entry))) → FoundFor (h .turn) x) ⌝ }
 {
-    if pattern.len() != 1 {
+    if m != 1 {
         return 0;
     }
     let a = work[place_of(work, r)];
-    if a == rank_of(order, pattern[0]) {
+    if a == work[PATTERN] {
         return PACK;
     }
     0

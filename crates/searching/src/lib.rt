@@ -1,4 +1,4 @@
-// The live cuts of a pattern; counting its occurrences, and listing them.
+// The listed cuts of a pattern; counting its occurrences, and listing them.
 use checks::clear_front;
 use checks::pattern_fits;
 use definitions::Answer;
@@ -12,7 +12,7 @@ use ranks::SAMPLE_ORDER;
 ghost use mathlib.Core.List.{[], _∷_};
 ghost use Rattle.definitions.specs.Services.{Serves, Answers, Searches, sampleOrder, countService, locateService, cutsService};
 
-// Lists the live cuts of a pattern. Refuses by 2, 3, 9; success answers how many there are.
+// Lists the live cuts of a pattern that a search tries. Refuses by 2, 3, 9; success answers how many there are.
 pub fn live_cuts(pattern: &[u8], result: &mut [u32]) -> Answer
     ensures { λ r. ⌜ Serves (cutsService sampleOrder (now (pattern .entry)) (now (result .entry))) (Answers r) (now (result .exit) ∷ []) ⌝ }
 {

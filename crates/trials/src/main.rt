@@ -1,6 +1,7 @@
 // The program `trials`: each line of its input has a drive and a motif, with a space between them. The drive is stored and the motif
 // searched, and what the library lists is compared with what the naive scanner lists; so is the drive's Lyndon array, entry by entry, with
-// what single calls answer and with what the naive side says. The file `stdout` has what is printed.
+// what single calls answer and with what the naive side says, and the motif's cuts with those that the naive side lists. The file `stdout` has what
+// is printed.
 use definitions::Answer;
 use libc::STDIN_FILENO;
 use libc::STDOUT_FILENO;
@@ -49,6 +50,7 @@ fn try_line(line: &[u8]) {
     if e < line.len() {
         let from = e + 1;
         store(&line[0..e], &line[from..]);
+        cut(&line[from..]);
     }
     print(b"\n");
 }
@@ -130,6 +132,25 @@ fn length_at(table: &[u32], i: usize) -> usize {
     match a {
         Answer::Refused(_, _) => 0,
         Answer::Done(n) => n,
+    }
+}
+
+// Prints the cuts of a motif, and whether the naive side lists the same. A motif whose cuts are tried has at most 63 samples.
+fn cut(motif: &[u8]) {
+    if 63 < motif.len() {
+        return;
+    }
+    let mut cuts = [7u32; 64];
+    let mut tried = [7u32; 64];
+    let a = index::live_cuts(motif, &mut cuts);
+    match a {
+        Answer::Refused(number, _) => print_number(b" refused ", wide(number)),
+        Answer::Done(n) => {
+            print_list(b" cuts", &cuts, n);
+            if naive::cuts::list(motif, &mut tried) == n && equal(&cuts, &tried) {
+                print(b" by both");
+            }
+        }
     }
 }
 

@@ -1,84 +1,105 @@
--- `cut_at_join` tries the cuts that fit upwards. The loop's invariant: at none of those passed the pattern stands across the join.
-use mathlib.Core.Path.{_≡_, refl}
-use Prim.Native.Nat.{ℕ, suc, _+_, _-_, _≤_, _<_, min}
+-- `cut_at_join` tries the cuts upwards. The loop's invariant: at none of those passed the pattern straddles the join.
+use mathlib.Core.Path.{_≡_, refl, sym, _∙_, subst}
+use mathlib.Core.Bool.{false}
+use Prim.Native.Nat.{ℕ, _+_, _-_, _≤_, _<_}
 use native.Mathlib.Omega.{arith}
-use lib.ListN.{length}
-use Rattle.joins.proofs.Joining.{Missed, missed-none, missed-more, join-hit, join-miss, packed-hit, packed-miss}
+use lib.ListN.{getD}
+use Rattle.layout.specs.Layout.{CUTS}
+use Rattle.joins.proofs.Joining.{tested, Missed, missed-more, missed-all, missed-rest, cut-range, join-hit, join-miss, packed-hit, packed-miss}
 use Rattle.joins.proofs.cut_at_join.Statement.{statement}
 use Rattle.joins.proofs.cut_at_join.Tie as tie
 
 abbrev Inv-loop : tie.InvT-loop
-Inv-loop order first pattern work at left right m join end c₀ c =
-    (c₀ ≤ c) × (m ≡ length pattern) × (join ≡ at + left) × (end ≡ min (length pattern) (suc left)) × (c₀ ≡ 1 + (length pattern - right - 1))
-    × Missed order pattern work join c₀ c
+Inv-loop work m n at left right join i₀ i = (join ≡ at + left) × (i ≤ n) × Missed work m at left right i
 
 abbrev μ-loop : tie.MeasureT-loop
-μ-loop order first pattern work at left right m join end c₀ c = end - c
+μ-loop work m n at left right join i₀ i = n - i
 
-loop-holds : tie.Need-loop-holds Inv-loop μ-loop
-loop-holds c =
-    let a = c .before .before .before .before .args in
-    let first = c .first-cut .result in
-    (omega arith, refl, refl, c .before .end-of-cuts .ensures, c .first-cut .ensures, missed-none (a .order) (a .pattern .now) (a .work .now) (a .at + a .left) first)
+-- a cut that is tried
+cut-here : (c : tie.After-wide Inv-loop μ-loop) → let at = c .before .before .before in
+    let a = at .before .before .args in (0 < c .wide .result) × (c .wide .result < a .m) × (c .wide .result ≡ getD (a .work .now) (CUTS + at .loop .i) 0)
+cut-here c =
+    let t = c .before .before in
+    let at = t .before in
+    let s = at .before .before in
+    let a = s .args in
+    let (low, high) = cut-range (a .work .now) (a .m) (a .n) (a .at) (a .left) (a .right) (s .pre .0) (s .pre .1) (s .pre .2) (at .loop .i) (t .loop-test .taken) in
+    (omega (arith, c .wide .ensures), omega (arith, c .wide .ensures), c .wide .ensures)
 
-is-cut-requires : tie.Need-is-cut-requires Inv-loop μ-loop
-is-cut-requires c κs =
-    let at = c .before in
-    let s = at .before .before .before .before .before in
-    (s .pre .2, λ i z h. s .pre .3 i z (omega arith), omega arith, s .pre .1, omega arith, s .pre .5, s .pre .6)
-
--- the cut and PACK fit into a word
-small : (n c : ℕ) → c < n → n ≤ 2047 → c < 4096
-small n c h k = omega arith
-
-cast-result : tie.Need-cast-result Inv-loop μ-loop
-cast-result c =
-    let at = c .before .before .before in
-    let s = at .before .before .before .before .before in
-    let l = small (length (s .args .pattern .now)) (at .loop .c) (omega arith) (s .pre .1) in
-    omega (arith, l)
-
-add-result : tie.Need-add-result Inv-loop μ-loop
-add-result c =
-    let at = c .before .before .before in
-    let s = at .before .before .before .before .before in
-    let l = small (length (s .args .pattern .now)) (at .loop .c) (omega arith) (s .pre .1) in
-    omega (arith, l)
+shared-slice-read-wide : tie.Need-shared-slice-read-wide Inv-loop μ-loop
+shared-slice-read-wide c =
+    let t = c .before in
+    let s = t .before .before .before in
+    omega (arith, t .loop-test .taken, s .pre .0 .few, s .pre .2)
 
 returns : tie.Need-returns Inv-loop μ-loop
 returns c =
     let k = c .before in
-    let at = k .before .before in
-    let s = at .before .before .before .before .before in
+    let t = k .before .before in
+    let at = t .before in
+    let s = at .before .before in
     let a = s .args in
-    packed-hit (length (a .pattern .now)) (at .loop .c) (omega arith) (omega arith) (s .pre .1)
-    (join-hit (a .order) (a .pattern .now) (a .work .now) (a .at) (a .left) (a .right) (omega arith) (a .at + a .left) (at .loop .c) refl
-    (omega arith) (omega arith) (omega arith) (omega arith) (k .is-cut .ensures .0 (c .if1 .taken)))
+    packed-miss
+    (join-miss (a .work .now) (a .m) (a .n) (a .at) (a .left) (a .right) (s .pre .0) (s .pre .1) (s .pre .2)
+    (missed-rest (a .work .now) (a .m) (a .n) (a .at) (a .left) (a .right) (s .pre .0) (s .pre .1) (s .pre .2) (at .loop .i) (t .loop-test .taken)
+    (omega (arith, c .if1 .taken, k .wide .ensures)) (at .loop .inv .2)))
 
-loop-again : tie.Need-loop-again Inv-loop μ-loop
-loop-again c =
+straddles-requires : tie.Need-straddles-requires Inv-loop μ-loop
+straddles-requires c κs =
     let k = c .before in
-    let at = k .before .before in
-    let s = at .before .before .before .before .before in
-    let a = s .args in (
-      omega arith,
-      refl,
-      refl,
-      at .loop .inv .3,
-      at .loop .inv .4,
-      missed-more (a .order) (a .pattern .now) (a .work .now) (a .at + a .left) (at .before .first-cut .result) (at .loop .c) (at .loop .inv .5) (k .is-cut .ensures .1 (c .if1 .left)),
-    )
+    let s = k .before .before .before .before .before in
+    let (low, high, e) = cut-here k in
+    (high, s .pre .0 .short, omega (arith, c .if1 .left), omega (arith, s .pre .1), s .pre .2)
+
+-- the cut and PACK fit into a word
+small : (c m : ℕ) → c < m → m ≤ 2047 → c < 4096
+small c m h k = omega arith
+
+fits : (c : tie.After-wide Inv-loop μ-loop) → c .wide .result < 4096
+fits c = let s = c .before .before .before .before .before in small (c .wide .result) (s .args .m) (cut-here c .1) (s .pre .0 .short)
+
+-- what `straddles` answers, of the cut that stands in the list
+answer : (c : tie.After-straddles Inv-loop μ-loop) → let at = c .before .before .before .before .before in
+    let a = at .before .before .args in c .straddles .result ≡ tested (a .work .now) (a .m) (a .at) (a .left) (a .right) (c .before .before .wide .result)
+answer c = c .straddles .ensures
 
 returns-2 : tie.Need-returns-2 Inv-loop μ-loop
 returns-2 c =
-    let at = c .before in
-    let s = at .before .before .before .before .before in
+    let d = c .before in
+    let k = d .before .before in
+    let s = k .before .before .before .before .before in
     let a = s .args in
-    packed-miss (join-miss (a .order) (a .pattern .now) (a .work .now) (a .at) (a .left) (a .right) (omega arith) (a .at + a .left) (at .before .first-cut .result) (at .before .before .end-of-cuts .result) (at .loop .c) refl
-    (s .pre .0) (at .loop .inv .4) (at .loop .inv .3) (c .loop-test .left) (at .loop .inv .5))
+    let (low, high, e) = cut-here k in
+    packed-hit (a .m) (k .wide .result) low high (s .pre .0 .short)
+    (join-hit (a .work .now) (a .m) (a .n) (a .at) (a .left) (a .right) (s .pre .0) (s .pre .1) (s .pre .2) (k .wide .result) low high
+    (omega (arith, d .before .if1 .left)) (sym (answer d) ∙ c .if2 .taken))
+
+loop-again : tie.Need-loop-again Inv-loop μ-loop
+loop-again c =
+    let d = c .before in
+    let k = d .before .before in
+    let t = k .before .before in
+    let at = t .before in
+    let s = at .before .before in
+    let a = s .args in (
+      refl,
+      omega (arith, t .loop-test .taken),
+      missed-more (a .work .now) (a .m) (a .n) (a .at) (a .left) (a .right) (s .pre .0) (s .pre .1) (s .pre .2) (at .loop .i) (at .loop .inv .2)
+          (subst (λ (i : ℕ). tested (a .work .now) (a .m) (a .at) (a .left) (a .right) i ≡ false) (k .wide .ensures) (sym (answer d) ∙ c .if2 .left)),
+    )
+
+returns-3 : tie.Need-returns-3 Inv-loop μ-loop
+returns-3 c =
+    let at = c .before in
+    let s = at .before .before in
+    let a = s .args in
+    packed-miss
+    (join-miss (a .work .now) (a .m) (a .n) (a .at) (a .left) (a .right) (s .pre .0) (s .pre .1) (s .pre .2)
+    (missed-all (a .work .now) (a .m) (a .n) (a .at) (a .left) (a .right) (s .pre .0) (s .pre .1) (s .pre .2) (at .loop .i) (omega (arith, c .loop-test .left)) (at .loop .inv .2)))
 
 pub cut-at-join-spec : {M : Type 1} → statement M
 cut-at-join-spec =
     tie.close
-    (tie.spec Inv-loop μ-loop (λ c. omega arith) (λ c κs. omega arith) (λ c κs. tt) loop-holds (λ c. omega arith) is-cut-requires cast-result add-result returns
-    (λ c. omega arith) (λ c. omega arith) loop-again returns-2)
+    (tie.spec Inv-loop μ-loop (λ c. omega (arith, c .before .pre .1)) (λ c. (refl, omega arith, λ j h. absurd (omega arith))) (λ c. omega (arith, c .loop-test .taken, c .before .before .before .pre .0 .few)) (λ c. omega (arith, c .loop-test .taken, c .before .before .before .pre .0 .few)) shared-slice-read-wide (λ c κs. tt) returns
+    straddles-requires (λ c. let h = fits (c .before .before .before) in omega (arith, h)) (λ c. let h = fits (c .before .before .before) in omega (arith, h)) returns-2
+    (λ c. omega arith) (λ c. omega arith) loop-again returns-3)

@@ -4,14 +4,16 @@ use mathlib.Core.List.{List}
 use Prim.Native.Nat.{ℕ, _+_, _-_, _≤_}
 use native.Mathlib.Omega.{arith}
 use lib.ListN.{length}
-use Rattle.definitions.specs.Words.{placed}
-use Rattle.naive.proofs.Scanning.{placesBelow, none-noted, noted-fewer, one-more, all-noted}
+use Rattle.definitions.specs.Words.{below, placed}
+use Rattle.lists.specs.Numbers.{below-length}
+use Rattle.naive.proofs.Scanning.{beginsIn, all-noted}
+use Rattle.naive.proofs.Noting.{none-noted, one-more}
 use Rattle.naive.proofs.scan.Statement.{statement}
 use Rattle.naive.proofs.scan.Tie as tie
 
 abbrev Inv-loop : tie.InvT-loop
 Inv-loop pattern text places₀ i₀ n₀ places i n =
-    (i ≤ length text + 1) × (length places ≡ length places₀) × (n ≡ length (placesBelow pattern text i)) × (places ≡ placed (placesBelow pattern text i) places₀)
+    (i ≤ length text + 1) × (length places ≡ length places₀) × (n ≡ length (below (beginsIn pattern text) i)) × (places ≡ placed (below (beginsIn pattern text) i) places₀)
 
 abbrev μ-loop : tie.MeasureT-loop
 μ-loop pattern text places₀ i₀ n₀ places i n = length text + 1 - i
@@ -19,14 +21,14 @@ abbrev μ-loop : tie.MeasureT-loop
 loop-holds : tie.Need-loop-holds Inv-loop μ-loop
 loop-holds c =
     let a = c .before .before .before .args in
-    let none = none-noted (a .pattern .now) (a .text .now) (a .places .now) in
+    let none = none-noted (beginsIn (a .pattern .now) (a .text .now)) (a .places .now) in
     (omega arith, refl, none .0, none .1)
 
 noted-requires : tie.Need-noted-requires Inv-loop μ-loop
 noted-requires c κs =
     let at = c .before .before .before in
     let a = at .before .before .before .before .args in
-    (omega arith, omega (arith, at .loop .inv, noted-fewer (a .pattern .now) (a .text .now) (at .loop .i)))
+    (omega arith, omega (arith, at .loop .inv, below-length (beginsIn (a .pattern .now) (a .text .now)) (at .loop .i)))
 
 loop-again : tie.Need-loop-again Inv-loop μ-loop
 loop-again c =
@@ -34,7 +36,7 @@ loop-again c =
     let b = l .before .before in
     let at = b .before .before in
     let a = at .before .before .before .before .args in
-    let more = one-more (a .pattern .now) (a .text .now) (a .places .now) (at .loop .i) (at .loop .n) (l .noted .result) (at .loop .places) (l .noted .last .1 .1 .1 .0) (b .begins-at .result) (omega arith) (b .begins-at .ensures) (at .loop .inv .2) (at .loop .inv .3) (l .noted .ensures .0) (l .noted .ensures .1) in
+    let more = one-more (beginsIn (a .pattern .now) (a .text .now)) (a .places .now) (at .loop .i) (at .loop .n) (l .noted .result) (at .loop .places) (l .noted .last .1 .1 .1 .0) (b .begins-at .result) (omega arith) (b .begins-at .ensures) (at .loop .inv .2) (at .loop .inv .3) (l .noted .ensures .0) (l .noted .ensures .1) in
     (omega arith, l .noted .kept .1 .1 .1 .0 ∙ at .loop .inv .1, more .0, more .1)
 
 same-length : tie.Need-same-length Inv-loop μ-loop

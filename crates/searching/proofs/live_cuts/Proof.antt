@@ -1,4 +1,4 @@
--- `live_cuts` is refused by the pattern, or decided by delivering its live cuts.
+-- `live_cuts` is refused by the pattern, or decided by delivering its listed cuts.
 use mathlib.Core.Path.{refl}
 use lib.ListN.{length}
 use borrow.Author.Needs.{needs}
@@ -20,7 +20,7 @@ deliver-cuts-requires : tie.Need-deliver-cuts-requires
 deliver-cuts-requires c κs =
     let f = c .before .before .before in
     let p = f .before .before .before .args .pattern .now in
-    passed-pattern p (done-all (patternChecks p) (length p) (f .pattern-fits .ensures) (c .before .enum-told .given .1) .0) .1
+    passed-pattern p (done-all (patternChecks p) (length p) (f .pattern-fits .ensures) (c .before .enum-told .given .1) .0)
 
 returns-2 : tie.Need-returns-2
 unfolding cutsService

@@ -1,0 +1,47 @@
+-- `place_pattern` writes the ranks, and then the cuts into a list of k + 1 words.
+use mathlib.Core.Path.{refl}
+use mathlib.Core.List.{_++_}
+use Prim.Native.Nat.{_+_, _-_, _≤_}
+use native.Mathlib.Omega.{arith}
+use lib.ListN.{length, take, drop, length-take, length-drop}
+use borrow.Author.Needs.{needs}
+use Rattle.cuts.proofs.Lists.{most-cuts, eleven}
+use Rattle.layout.specs.Layout.{PATTERN, CUTS}
+use Rattle.search.proofs.Starting.{pattern-here, counting-start}
+use Rattle.search.proofs.place_pattern.Statement.{statement}
+use Rattle.search.proofs.place_pattern.Tie as tie
+
+-- the list has at most 11 words
+few : (c : tie.After-floor-log2) → c .floor-log2 .result + 1 ≤ 11
+few c =
+    let s = c .before .before .before .before .before .before .before in
+    eleven (length (s .args .pattern .now)) (c .floor-log2 .result) (s .pre .1) (c .floor-log2 .ensures)
+
+list-requires : tie.Need-list-requires
+list-requires c κs =
+    let f = c .before in
+    let s = f .before .before .before .before .before .before .before in
+    let most = most-cuts (s .args .order) (s .args .pattern .now) (f .floor-log2 .result) (f .floor-log2 .ensures) in
+    (simp (length-take, length-drop) (omega (arith, few f, most)), s .pre .1)
+
+returns : tie.Need-returns
+returns c text chair h =
+    let l = c .before .before in
+    let f = l .before .before in
+    let r = f .before .before .before in
+    let s = r .before .before .before .before in
+    let a = s .args in
+    let p = a .pattern .now in
+    let m = PATTERN + length p - PATTERN in
+    let k = CUTS + f .floor-log2 .result + 1 - CUTS in
+    let v = take PATTERN (a .work .now) ++ (r .write .last .1 .1 .0 ++ drop m (drop PATTERN (a .work .now))) in
+    let q = pattern-here p (s .pre .0) (s .pre .1) (λ i b. omega (arith, r .before .before .before .shared-slice-known .given i)) in
+    let most = most-cuts (a .order) p (f .floor-log2 .result) (f .floor-log2 .ensures) in
+    counting-start (a .order) p text chair (a .work .now) (r .write .last .1 .1 .0) v (l .list .last .1 .1 .0) m k (l .list .result) h q (omega arith)
+    (r .write .ensures) refl (l .list .ensures .0) (omega (arith, most)) (omega (arith, few f)) (l .list .ensures .1)
+
+pub place-pattern-spec : {M : Type 1} → statement M
+place-pattern-spec =
+    tie.close
+    (tie.spec (λ c. search needs) (λ c. search needs) (λ c. search needs) (λ c. search needs) (λ c κs. search needs) (λ c κs. search needs)
+    (λ c. omega (arith, few c)) (λ c. omega (arith, few c)) (λ c. search needs) (λ c. search needs) (λ c. omega (arith, few c)) list-requires (λ c. search needs) returns)
