@@ -31,6 +31,15 @@ pub fn rank_of(byte: u8) -> u32 {
     (byte as u32 + 128) % 256 + 1
 }
 
+/// The ranks of samples at the front.
+pub fn write_ranks(samples: &[u8], ranks: &mut [u32]) {
+    let mut i = 0;
+    while i < samples.len() {
+        put(ranks, i, rank_of(at(samples, i)));
+        i += 1;
+    }
+}
+
 /// The byte of a sample's rank in the signed order.
 pub fn byte_of(rank: u32) -> u8 {
     ((rank + 127) % 256) as u8
@@ -62,8 +71,55 @@ pub fn part(s: &[u32], from: usize, to: usize) -> &[u32] {
     unsafe { s.get_unchecked(from..to) }
 }
 
-/// Whether two slices of the same length hold the same words.
-fn equal(x: &[u32], y: &[u32]) -> bool {
+/// Whether two slices of the same length hold the same words. Few are compared one by one; of more the first eight, and then blocks. The last block
+/// ends with the slice, and may begin inside what is compared before.
+#[inline(always)]
+pub fn equal(x: &[u32], y: &[u32]) -> bool {
+    let n = x.len();
+    if n < 8 {
+        return equal_front(x, y, n);
+    }
+    if !equal_front(x, y, 8) {
+        return false;
+    }
+    if n < 16 {
+        return equal_many(part(x, n - 8, n), part(y, n - 8, n));
+    }
+    equal_by_sixteen(x, y)
+}
+
+/// Whether their first n words are the same, up to the first that differs.
+#[inline(always)]
+fn equal_front(x: &[u32], y: &[u32], n: usize) -> bool {
+    let mut i = 0;
+    while i < n {
+        if at(x, i) != at(y, i) {
+            return false;
+        }
+        i += 1;
+    }
+    true
+}
+
+#[inline(always)]
+fn equal_by_sixteen(x: &[u32], y: &[u32]) -> bool {
+    let n = x.len();
+    let blocks = n / 16;
+    let mut i = 0;
+    while i < blocks {
+        let a = 16 * i;
+        let b = a + 16;
+        if !equal_many(part(x, a, b), part(y, a, b)) {
+            return false;
+        }
+        i += 1;
+    }
+    equal_many(part(x, n - 16, n), part(y, n - 16, n))
+}
+
+/// Whether all words are the same: the loop goes to the end.
+#[inline(always)]
+fn equal_many(x: &[u32], y: &[u32]) -> bool {
     let mut alike = true;
     let mut i = 0;
     while i < x.len() {
@@ -79,7 +135,7 @@ fn alike(x: &[u32], y: &[u32], blocks: usize) -> usize {
     while i < blocks {
         let a = 8 * i;
         let b = a + 8;
-        if !equal(part(x, a, b), part(y, a, b)) {
+        if !equal_many(part(x, a, b), part(y, a, b)) {
             return i;
         }
         i += 1;
@@ -231,9 +287,7 @@ pub fn build(text: &[u8], chair: u16, work: &mut [u32], result: &mut [u32]) -> A
         return refused(4, 0);
     }
     put(work, 0, 0);
-    for (i, &b) in text.iter().enumerate() {
-        put(work, 1 + i, rank_of(b));
-    }
+    write_ranks(text, unsafe { work.get_unchecked_mut(1..1 + text.len()) });
     let m = build_table(work, text.len() + 1, chair);
     let answer = deliver_table(work, m, result);
     clear(work, 0, WORK);

@@ -1,6 +1,6 @@
 //! One call of a service under callgrind: `bench SIDE SERVICE FAMILY SAMPLES [PATTERN]`. SIDE is `library` or `rust`; SERVICE is `build`,
 //! `check`, `read`, `copied` (reading, beside a Rust that copies the text), `extract` (the whole text), `count`, `locate`, `cuts` (the live cuts of
-//! the pattern), `lyndon_length` (at the first position), `lyndon_array`, `to_signed` (of the former table), or `doubling`: the check of a table of SAMPLES
+//! the pattern that a search tries), `lyndon_length` (at the first position), `lyndon_array`, `to_signed` (of the former table), or `doubling`: the check of a table of SAMPLES
 //! rules that double. FAMILY 100 + m is a block of m random bytes, repeated. The pattern is the PATTERN samples in the middle of the text. It prints the answer
 //! and a checksum of each lent slice afterwards, which `bench/run` compares between the sides. The lent slices hold other values before the call.
 

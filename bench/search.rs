@@ -1,15 +1,15 @@
-//! The library's search in Rust: live cuts of a pattern, counting, listing.
+//! The library's search in Rust: the cuts of a pattern that are listed, counting, listing.
 
 use crate::baseline::*;
 use crate::tables::{value, with_loaded};
 
 // The areas of the work slice during a search; what is loaded stays where it is.
 const FOUND: usize = 6656;
-const FLAGS: usize = 8960;
-const FLAGS_END: usize = 11008;
+const PATTERN: usize = 8960;
+const CUTS: usize = 11008;
 
 /// The run that starts at a place, as far as it goes: the place a copy before its end, and its end.
-fn extend(pattern: &[u8], start: usize) -> (usize, usize) {
+fn scan(pattern: &[u8], start: usize) -> (usize, usize) {
     let (mut back, mut end) = (start, start + 1);
     while end < pattern.len() {
         let (a, b) = (rank_of(at(pattern, back)), rank_of(at(pattern, end)));
@@ -26,40 +26,50 @@ fn extend(pattern: &[u8], start: usize) -> (usize, usize) {
     (back, end)
 }
 
-/// Hands each live cut to `live`, rising. A run is left copy by copy; the starts of its copies are live where it reaches the end.
-#[inline(always)]
-fn for_live_cuts(pattern: &[u8], mut live: impl FnMut(usize)) {
-    let (mut start, mut back, mut end) = (1, 0, 0);
-    while start < pattern.len() {
-        if start <= back {
-            if end == pattern.len() {
-                live(start);
-            }
-            start += end - back;
-        } else {
-            (back, end) = extend(pattern, start);
-        }
+/// The place behind the whole copies of a run.
+fn behind(start: usize, back: usize, end: usize) -> usize {
+    let mut place = start;
+    while place <= back {
+        place += end - back;
     }
+    place
 }
 
-fn count_cuts(pattern: &[u8]) -> usize {
-    let mut n = 0;
-    for_live_cuts(pattern, |_| n += 1);
+/// Writes a cut behind the n that stand at the front, if it is listed. Answers how many stand there then.
+fn append(cuts: &mut [u32], n: usize, cut: usize, listed: bool) -> usize {
+    if listed {
+        put(cuts, n, cut as u32);
+        return n + 1;
+    }
     n
 }
 
-fn write_cuts(pattern: &[u8], result: &mut [u32]) {
-    let mut n = 0;
-    for_live_cuts(pattern, |cut| {
-        put(result, n, cut as u32);
-        n += 1;
-    });
+/// The same for the listed cuts of a run: where it reaches the end of m samples its start, and also the start of its last copy if that is
+/// another one and the copy reaches the end. `next` is the place behind its whole copies.
+fn append_run(cuts: &mut [u32], n: usize, (start, back, end): (usize, usize, usize), next: usize, m: usize) -> usize {
+    if end < m {
+        return n;
+    }
+    put(cuts, n, start as u32);
+    append(cuts, n + 1, back, start < back && next == m)
 }
 
-/// A flag for each cut, that of cut 0 first: 1 if the cut is live, else 0.
-fn flag_cuts(pattern: &[u8], flags: &mut [u32]) {
-    clear(flags, 0, pattern.len());
-    for_live_cuts(pattern, |cut| put(flags, cut, 1));
+/// Writes the listed cuts of a pattern at the front of a slice. Answers how many there are.
+fn list(pattern: &[u8], cuts: &mut [u32]) -> usize {
+    let m = pattern.len();
+    let (mut start, mut n) = (1, 0);
+    while start < m {
+        let (back, end) = scan(pattern, start);
+        let next = behind(start, back, end);
+        n = append_run(cuts, n, (start, back, end), next, m);
+        start = next;
+    }
+    n
+}
+
+/// The largest whole k for which 2 to the power k is at most m.
+fn floor_log2(m: usize) -> usize {
+    (31 - (m as u32).leading_zeros()) as usize
 }
 
 /// The refusal of a pattern, if it has one.
@@ -73,17 +83,19 @@ fn pattern_refused(pattern: &[u8]) -> Option<Answer> {
     None
 }
 
-/// The live cuts of a pattern.
+/// The listed cuts of a pattern.
 #[inline(never)]
 pub fn live_cuts(pattern: &[u8], result: &mut [u32]) -> Answer {
     if let Some(a) = pattern_refused(pattern) {
         return a;
     }
-    let n = count_cuts(pattern);
+    let mut cuts = [0; 11];
+    let k = floor_log2(pattern.len());
+    let n = list(pattern, unsafe { cuts.get_unchecked_mut(0..k + 1) });
     if result.len() < n {
         return refused(9, n);
     }
-    write_cuts(pattern, result);
+    unsafe { result.get_unchecked_mut(0..n) }.copy_from_slice(part(&cuts, 0, n));
     done(n, 0)
 }
 
@@ -102,40 +114,29 @@ fn halves(work: &[u32], r: usize) -> Option<(usize, usize)> {
     Some((value(x) as usize, value(y) as usize))
 }
 
-/// Whether ranks are those of the pattern: the first by its rank, each other by its byte.
-fn matches(first: u32, pattern: &[u8], ranks: &[u32]) -> bool {
-    if first != at(ranks, 0) {
+/// Whether the pattern, m samples, straddles a join with `right` symbols behind it at cut c.
+fn straddles(work: &[u32], m: usize, c: usize, join: usize, right: usize) -> bool {
+    if right < m - c {
         return false;
     }
-    let mut i = 1;
-    while i < pattern.len() {
-        if byte_of(at(ranks, i)) != at(pattern, i) {
-            return false;
-        }
-        i += 1;
-    }
-    true
+    let place = join - c;
+    equal(part(work, place, place + m), part(work, PATTERN, PATTERN + m))
 }
 
-/// Whether cut c is live and the pattern stands at a place.
-fn is_cut(first: u32, pattern: &[u8], work: &[u32], c: usize, place: usize) -> bool {
-    if at(work, FLAGS + c) == 0 {
-        return false;
-    }
-    matches(first, pattern, part(work, place, place + pattern.len()))
-}
-
-/// 4096 and the live cut at which the pattern straddles the join of two strings, the first of which stands at a place; 0 if it does not.
-fn cut_at_join(first: u32, pattern: &[u8], work: &[u32], place: usize, left: usize, right: usize) -> u32 {
-    let m = pattern.len();
+/// 4096 and the cut, among n that are listed, at which the pattern straddles the join of two strings, the first of which stands at a place; 0 if it does not.
+/// The cuts rise: behind one that is greater than the first string none fits.
+fn cut_at_join(work: &[u32], m: usize, n: usize, place: usize, left: usize, right: usize) -> u32 {
     let join = place + left;
-    let end = if m <= left { m } else { left + 1 };
-    let mut c = if right < m { m - right } else { 1 };
-    while c < end {
-        if is_cut(first, pattern, work, c, join - c) {
+    let mut i = 0;
+    while i < n {
+        let c = at(work, CUTS + i) as usize;
+        if left < c {
+            return 0;
+        }
+        if straddles(work, m, c, join, right) {
             return 4096 + c as u32;
         }
-        c += 1;
+        i += 1;
     }
     0
 }
@@ -146,21 +147,21 @@ fn found(both: usize, joined: u32) -> u32 {
 }
 
 /// The occurrences in rule r times 4096 and the cut at its join.
-fn found_in(first: u32, pattern: &[u8], work: &[u32], r: usize) -> u32 {
+fn found_in(work: &[u32], m: usize, n: usize, r: usize) -> u32 {
     let Some((u, v)) = halves(work, r) else {
-        let found = pattern.len() == 1 && at(work, word(work, PLACES, r)) == rank_of(at(pattern, 0));
+        let found = m == 1 && at(work, word(work, PLACES, r)) == at(work, PATTERN);
         return if found { 4096 } else { 0 };
     };
     let (left, right) = (word(work, LENGTHS, u), word(work, LENGTHS, v));
-    let cut = cut_at_join(first, pattern, work, word(work, PLACES, r), left, right);
-    found(word(work, FOUND, u) / 4096 + word(work, FOUND, v) / 4096, cut)
+    let both = word(work, FOUND, u) / 4096 + word(work, FOUND, v) / 4096;
+    let cut = cut_at_join(work, m, n, word(work, PLACES, r), left, right);
+    found(both, cut)
 }
 
-fn count_rules(pattern: &[u8], work: &mut [u32], rules: usize) {
-    let first = rank_of(at(pattern, 0));
+fn count_rules(work: &mut [u32], m: usize, n: usize, rules: usize) {
     let mut r = 0;
     while r < rules {
-        let x = found_in(first, pattern, work, r);
+        let x = found_in(work, m, n, r);
         put(work, FOUND + r, x);
         r += 1;
     }
@@ -168,8 +169,11 @@ fn count_rules(pattern: &[u8], work: &mut [u32], rules: usize) {
 
 /// Counts the occurrences of a pattern in the text that is loaded.
 fn count_loaded(pattern: &[u8], work: &mut [u32], rules: usize) -> usize {
-    flag_cuts(pattern, unsafe { work.get_unchecked_mut(FLAGS..FLAGS_END) });
-    count_rules(pattern, work, rules);
+    let m = pattern.len();
+    write_ranks(pattern, unsafe { work.get_unchecked_mut(PATTERN..PATTERN + m) });
+    let k = floor_log2(m);
+    let n = list(pattern, unsafe { work.get_unchecked_mut(CUTS..CUTS + k + 1) });
+    count_rules(work, m, n, rules);
     word(work, FOUND, rules - 1) / 4096
 }
 

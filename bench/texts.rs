@@ -1,4 +1,5 @@
-//! Eight families of texts, one that is slow to list the live cuts of, drives of a switch joystick, and repeated blocks of any length.
+//! Eight families of texts, one that is slow to list the cuts of, drives of a switch joystick, two whose middle has hundreds of live cuts, and repeated blocks
+//! of any length.
 
 /// A small generator of numbers, the same in every run.
 struct Numbers(u64);
@@ -17,7 +18,7 @@ impl Numbers {
     }
 }
 
-pub const FAMILIES: [&str; 10] = [
+pub const FAMILIES: [&str; 12] = [
     "random bytes",
     "two symbols",
     "rests and ramps",
@@ -28,6 +29,8 @@ pub const FAMILIES: [&str; 10] = [
     "Fibonacci",
     "falling pairs",
     "nine headings",
+    "(ab)^j",
+    "a^k b a^2k b^k",
 ];
 
 /// A family BLOCKS + m has a block of m random bytes, repeated.
@@ -41,6 +44,14 @@ fn repeated(unit: &[u8], n: usize) -> Vec<u8> {
 fn run(k: usize) -> Vec<u8> {
     let mut s = vec![b'a'; k];
     s.push(b'b');
+    s
+}
+
+/// A rest of a, then b, a rest twice as long, and b to the end. The middle lies in the second rest; at the join before that, half of its live cuts fit.
+fn two_rests(n: usize) -> Vec<u8> {
+    let mut s = run(n / 4);
+    s.resize(s.len() + n / 4 * 2, b'a');
+    s.resize(n, b'b');
     s
 }
 
@@ -105,6 +116,8 @@ pub fn text(family: usize, n: usize) -> Vec<u8> {
         7 => fibonacci(n),
         8 => falling(n),
         9 => headings(n, &mut numbers),
+        10 => repeated(b"ab", n),
+        11 => two_rests(n),
         _ => repeated(&(BLOCKS..family).map(|_| numbers.sample()).collect::<Vec<u8>>(), n),
     }
 }

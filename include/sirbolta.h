@@ -78,7 +78,13 @@ sirbolta_search_reply sirbolta_count(const uint32_t *table, size_t table_len, co
 /* Writes the positions at which the pattern begins in the text, rising, each once. Count: the positions written. */
 sirbolta_search_reply sirbolta_locate(const uint32_t *table, size_t table_len, const uint8_t *pattern, size_t pattern_len, uint32_t *work, size_t work_len, uint32_t *result, size_t result_len);
 
-/* Writes the live cuts of the pattern, rising, each once. Count: the cuts written. */
+/*
+ * Writes the live cuts of the pattern that a search tries, rising, each once, at most 11. Count: the cuts written.
+ *
+ * A cut splits the pattern before a sample that is not the first; its tail is the samples from there on. It is live if its tail is not the
+ * greater where it first differs from any other cut's tail. A live cut is left out if the samples from an earlier cut up to it are a Lyndon
+ * word, and its tail begins with that word and is longer: where a pattern straddles the join of a rule's two halves, it is never cut there.
+ */
 sirbolta_reply sirbolta_live_cuts(const uint8_t *pattern, size_t pattern_len, uint32_t *result, size_t result_len);
 
 /* Count: the length of the longest Lyndon word that begins at position in the text. */

@@ -185,7 +185,7 @@ class Refusals(unittest.TestCase):
         6: {"table": sirbolta.Table([0, 0xC0000000, 257, 0xC0000000])},
         7: {"table": sirbolta.Table([98, 0xC0000000])},
         8: {"start": 4, "length": 1, "position": 4},
-        9: {"_SAMPLES": 0, "_TABLE": 0},
+        9: {"_SAMPLES": 0, "_TABLE": 0, "_CUTS": 0},
     }
 
     def setUp(self):
@@ -327,7 +327,15 @@ class Module(unittest.TestCase):
         self.assertEqual(sirbolta.read(table), (text, 65_535))
         self.assertEqual((sirbolta.lyndon_length(table, 0), sirbolta.lyndon_array(table)), (2047, [*range(2047, 7, -1)] + [1] * 7))
         self.assertEqual(sirbolta.locate(sirbolta.build(bytes(2047), 0), b"\0"), list(range(2047)))
-        self.assertEqual(sirbolta.live_cuts(bytes(2047)), list(range(1, 2047)))
+        word = b"aa"
+        for sample in b"bcdefghij":
+            word += bytes([sample]) + word
+        cuts = sirbolta.live_cuts(b"z" + word)
+        self.assertEqual([1536 - cut for cut in cuts], [1535, 767, 383, 191, 95, 47, 23, 11, 5, 2, 1])
+
+    def test_live_cuts_that_are_left_out(self):
+        for pattern, cuts in [(b"aaaa", [1, 3]), (b"bababab", [1, 5]), (b"baabaabaab", [1, 7]), (b"baabaabaa", [1, 7, 8]), (bytes(2047), [1, 2046])]:
+            self.assertEqual(sirbolta.live_cuts(pattern), cuts)
 
     def test_samples_are_compared_as_signed_numbers(self):
         edges = bytes([128, 255, 0, 127])

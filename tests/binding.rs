@@ -8,7 +8,7 @@ mod vector_file;
 
 use calls::*;
 use former::former_table;
-use sirbolta::{Reading, Refusal, SAMPLES, TABLE, WORK};
+use sirbolta::{Reading, Refusal, CUTS, SAMPLES, TABLE, WORK};
 use vector_file::{cases, Test};
 
 fn main() {
@@ -60,7 +60,7 @@ fn outcome(answer: Result<Reading, Refusal>) -> Outcome {
     }
 }
 
-/// The largest table, also converted, the most positions, and the most and longest Lyndon words, in slices of the lengths that the module names.
+/// The largest table, also converted, the most positions, the most cuts, and the most and longest Lyndon words, in slices of the lengths that the module names.
 fn largest() {
     let mut work = vec![7; WORK];
     let mut result = vec![7; TABLE];
@@ -82,6 +82,12 @@ fn largest() {
     let words = sirbolta::build(&[0; 2047], 0, &mut work, &mut result).unwrap();
     assert_eq!(sirbolta::locate(&result[..words], &[0], &mut work, &mut entries), Ok(2047));
     assert!(entries.iter().copied().eq(0..2047));
+    let word = b"bcdefghij".iter().fold(b"aa".to_vec(), |word, &sample| [&word[..], &[sample], &word[..]].concat());
+    let pattern = [b"z", &word[..]].concat();
+    let mut cuts = [7; CUTS];
+    assert_eq!(sirbolta::live_cuts(&pattern, &mut cuts[1..]), Err(Refusal::ResultTooShort { needed: 11 }));
+    assert_eq!(sirbolta::live_cuts(&pattern, &mut cuts), Ok(11));
+    assert_eq!(cuts.map(|cut| 1536 - cut), [1535, 767, 383, 191, 95, 47, 23, 11, 5, 2, 1]);
 }
 
 /// The table of a text and the largest chair number.

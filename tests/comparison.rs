@@ -11,7 +11,7 @@ mod tally;
 
 use calls::*;
 use damage::every_table;
-use inputs::{distinct_pairs, fibonacci, Generator};
+use inputs::{distinct_pairs, fibonacci, nested, Generator};
 use naive::{Naive, Order};
 use tally::Tally;
 
@@ -38,6 +38,7 @@ impl Comparison {
 
     fn short_texts(mut self) -> Tally {
         self.every_small_text();
+        self.powers();
         for table in (1..=5).flat_map(every_table) {
             self.compare_once(Call::Check { table: table.clone() });
             self.compare_once(Call::ToSigned { table });
@@ -82,7 +83,7 @@ impl Comparison {
         self.tally
     }
 
-    /// Every text of the samples 1 and -1 up to 7 samples, with every pattern up to 4 and every position, and live cuts, Lyndon arrays and conversion up to 10;
+    /// Every text of the samples 1 and -1 up to 7 samples, with every pattern up to 4 and every position, and listed cuts, Lyndon arrays and conversion up to 10;
     /// these also of the four samples at the ends of both orders, up to 5.
     fn every_small_text(&mut self) {
         let two = |n| every_text(&[1, 255], n);
@@ -109,6 +110,30 @@ impl Comparison {
         }
     }
 
+    /// The cuts of every pattern of the samples 1 and -1 from 11 up to 14 samples; and of patterns of lengths around powers of two: equal samples, fronts that are
+    /// ends, and copies of words with any first sample.
+    fn powers(&mut self) {
+        for pattern in (11..=14).flat_map(|n| every_text(&[1, 255], n)) {
+            self.compare_once(Call::Cuts { pattern });
+        }
+        for n in [1, 2, 3, 4, 7, 8, 9, 1023, 1024, 1025, 2047] {
+            self.power(vec![255; n]);
+            self.power(nested(b'a', n));
+            for _ in 0..12 {
+                let mut pattern = self.generator.power(n);
+                pattern[0] = self.generator.one_of(&[pattern[0], 128, 127]);
+                self.power(pattern);
+            }
+        }
+    }
+
+    /// The cuts of a pattern, and the pattern located in the drive that it is.
+    fn power(&mut self, pattern: Vec<u8>) {
+        let table = self.table_of(&pattern, 40);
+        self.compare_once(Call::Locate { table, pattern: pattern.clone() });
+        self.compare(Call::Cuts { pattern });
+    }
+
     /// Every service on the table of a text, and on tables made from it.
     fn text(&mut self, text: &[u8], searches: usize, damages: usize) {
         let chair = self.generator.chair();
@@ -131,7 +156,7 @@ impl Comparison {
         }
     }
 
-    /// A part, a count, a list, live cuts, a Lyndon length and all of them.
+    /// A part, a count, a list, listed cuts, a Lyndon length and all of them.
     fn search(&mut self, table: &[u32], text: &[u8]) {
         let start = self.generator.bound(text.len());
         let length = self.generator.bound(text.len().saturating_sub(start));
@@ -201,7 +226,7 @@ impl Comparison {
         let got = lending::serve(call, lent, null);
         let want = self.naive.answer(call, lent);
         let wrong = match &got {
-            Ok(got) => difference(got, &want),
+            Ok(got) => difference(got, &want).or_else(|| broken_bound(call, got)),
             Err(wrong) => Some(wrong.clone()),
         };
         if let Some(wrong) = wrong {
@@ -212,6 +237,16 @@ impl Comparison {
         self.tally.add(call, &want.0);
         want
     }
+}
+
+/// Which bound a list of cuts breaks: it has more than 1 + k entries, where 2^k is at most the pattern's length, or a tail that is not at least twice as long as
+/// the next one.
+fn broken_bound(call: &Call, (outcome, left): &(Outcome, Slices)) -> Option<String> {
+    let Call::Cuts { pattern } = call else { return None };
+    let tails: Vec<usize> = left.words[..outcome.count as usize].iter().map(|&cut| pattern.len() - cut as usize).collect();
+    let many = outcome.number == 0 && tails.len() > 1 + pattern.len().ilog2() as usize;
+    let near = tails.windows(2).any(|pair| pair[0] < 2 * pair[1]);
+    (many || near).then(|| format!("tails of {tails:?} samples"))
 }
 
 /// Every text of n samples of these values.

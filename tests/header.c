@@ -42,7 +42,7 @@ static int found(sirbolta_search_reply r, uint32_t number, uint64_t place, uint6
 }
 
 int main(void) {
-    const uint8_t text[4] = {97, 98, 97, 98};
+    const uint8_t text[4] = {97, 98, 97, 98}, equal[4] = {97, 97, 97, 97};
     want("interface", sirbolta_interface() == SIRBOLTA_INTERFACE);
     want("build", is(sirbolta_build(text, 4, 40, work, WORK, words, WORDS), 0, 0, WORDS, 0) && memcmp(words, abab, sizeof abab) == 0);
     want("check", is(sirbolta_check(abab, WORDS, work, WORK), 0, 0, 6, 0));
@@ -51,11 +51,12 @@ int main(void) {
     want("count", found(sirbolta_count(abab, WORDS, text, 2, work, WORK), 0, 0, 2));
     want("locate", found(sirbolta_locate(abab, WORDS, text, 2, work, WORK, words, 2), 0, 0, 2) && words[0] == 0 && words[1] == 2);
     want("live_cuts", is(sirbolta_live_cuts(text, 4, words, 1), 0, 0, 1, 0) && words[0] == 2);
+    want("live_cuts of equal samples", is(sirbolta_live_cuts(equal, 4, words, 2), 0, 0, 2, 0) && words[0] == 1 && words[1] == 3);
     want("lyndon_length", is(sirbolta_lyndon_length(abab, WORDS, 2, work, WORK), 0, 0, 2, 0));
     want("lyndon_array", is(sirbolta_lyndon_array(abab, WORDS, work, WORK, words, 4), 0, 0, 4, 0) && memcmp(words, lengths, sizeof lengths) == 0);
     want("to_signed", is(sirbolta_to_signed(former, 10, work, WORK, words, 10), 0, 0, 10, 0) && memcmp(words, rising, sizeof rising) == 0);
     want("to_signed of the signed table", is(sirbolta_to_signed(rising, 10, work, WORK, words, 10), 7, 0, 0, 0));
     want("a null table", is(sirbolta_check(NULL, 0, work, WORK), 5, 0, 0, 0));
-    if (!wrong) printf("header: 13 calls from C are right\n");
+    if (!wrong) printf("header: 14 calls from C are right\n");
     return wrong;
 }

@@ -84,19 +84,25 @@ fn search(text: &[u8], samples: usize) -> usize {
     2
 }
 
-/// Lists the live cuts of the whole drive, taken as a pattern.
+/// Lists the cuts of the whole drive, taken as a pattern.
 fn cut(pattern: &[u8]) -> usize {
     let (samples, m) = (signed(pattern), pattern.len());
     let passes = |c: usize, d: usize| {
         let shorter = m - c.max(d);
         samples[c..c + shorter] <= samples[d..d + shorter]
     };
-    let live: Vec<u32> = (1..m).filter(|&c| (1..m).all(|d| passes(c, d))).map(|c| c as u32).collect();
-    let mut result = vec![7u32; live.len()];
+    let drops = |d: usize, c: usize| c - d < m - c && samples[c..].starts_with(&samples[d..c]) && is_lyndon(&samples[d..c]);
+    let is_listed = |c: usize| (1..m).all(|d| passes(c, d)) && !(1..c).rev().any(|d| drops(d, c));
+    let listed: Vec<u32> = (1..m).filter(|&c| is_listed(c)).map(|c| c as u32).collect();
+    let mut result = vec![7u32; listed.len()];
     let cut = unsafe { sirbolta_live_cuts(pattern.as_ptr(), m, result.as_mut_ptr(), result.len()) };
-    assert_eq!((cut.number, cut.count as usize), (0, live.len()));
-    assert_eq!(result, live);
+    assert_eq!((cut.number, cut.count as usize), (0, listed.len()));
+    assert_eq!(result, listed);
     1
+}
+
+fn is_lyndon(word: &[i8]) -> bool {
+    (1..word.len()).all(|i| word < &word[i..])
 }
 
 /// Lists the lengths of the longest Lyndon words, each up to the first smaller suffix, and answers the first, one in the middle and the last; one position

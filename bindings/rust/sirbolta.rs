@@ -28,6 +28,9 @@ pub const SAMPLES: usize = 2_047;
 /// The most words of a table.
 pub const TABLE: usize = 4_608;
 
+/// The most cuts that `live_cuts` writes.
+pub const CUTS: usize = 11;
+
 /// Why a service refuses: the first check that is met.
 #[derive(Clone, Copy, Debug, PartialEq, Eq)]
 #[non_exhaustive]
@@ -93,7 +96,11 @@ pub fn locate(table: &[u32], pattern: &[u8], work: &mut [u32], result: &mut [u32
     found(unsafe { sirbolta_locate(table.as_ptr(), table.len(), p, k, w, n, result.as_mut_ptr(), result.len()) })
 }
 
-/// Writes the live cuts of the pattern, rising, and answers how many there are.
+/// Writes the live cuts of the pattern that a search tries, rising, at most `CUTS`, and answers how many there are.
+///
+/// A cut splits the pattern before a sample that is not the first; its tail is the samples from there on. It is live if its tail is not the greater where it
+/// first differs from any other cut's tail. A live cut is left out if the samples from an earlier cut up to it are a Lyndon word, and its tail begins with that
+/// word and is longer: where a pattern straddles the join of a rule's two halves, it is never cut there.
 pub fn live_cuts(pattern: &[u8], result: &mut [u32]) -> Result<usize, Refusal> {
     counted(unsafe { sirbolta_live_cuts(pattern.as_ptr(), pattern.len(), result.as_mut_ptr(), result.len()) })
 }

@@ -2,7 +2,7 @@
 
 use super::order::Order;
 use super::tables::{bad_word, drive_of, table_of};
-use super::words::{live_cuts, lyndon_array, occurrences};
+use super::words::{listed_cuts, lyndon_array, occurrences};
 use crate::calls::*;
 
 /// What a table is: the lowest index of a bad word, the table of no drive, or that of a drive and chair number.
@@ -96,7 +96,7 @@ impl Naive {
             Call::Read { .. } => Written::Bytes(self.drive(call)),
             Call::Extract { start, length, .. } => Written::Bytes(self.drive(call)[*start..*start + *length].to_vec()),
             Call::Locate { pattern, .. } => Written::Words(as_words(&occurrences(pattern, &self.drive(call)))),
-            Call::Cuts { pattern } => Written::Words(as_words(&live_cuts(&Order::Signed.values(pattern)))),
+            Call::Cuts { pattern } => Written::Words(as_words(&listed_cuts(&Order::Signed.values(pattern)))),
             Call::LyndonArray { .. } => Written::Words(as_words(&self.lyndon_array(call))),
             Call::ToSigned { .. } => {
                 let (drive, chair) = (self.drive(call), self.chair(call));
@@ -177,7 +177,7 @@ fn refusal(number: u32, place: usize) -> Outcome {
     Outcome { number, place: place as u64, count: 0, chair: 0 }
 }
 
-/// The slices with the first 16,384 words of the work slice zero; the live cuts take no work slice.
+/// The slices with the first 16,384 words of the work slice zero; the listing of cuts takes no work slice.
 fn cleared(lent: &Slices) -> Slices {
     let mut left = lent.clone();
     left.work.iter_mut().take(16384).for_each(|word| *word = 0);

@@ -1,4 +1,5 @@
-//! Strings: which is smaller, Lyndon words, the longest of them from a position, the standard factorization, live cuts and occurrences.
+//! Strings: which is smaller, Lyndon words, the longest of them from a position, the standard factorization, live cuts, those that are listed, and
+//! occurrences.
 
 use std::cmp::Ordering;
 use std::fmt::Debug;
@@ -44,18 +45,28 @@ fn passes<T: Ord>(tail: &[T], other: &[T]) -> bool {
     !matches!(first_difference(tail, other), Some(Ordering::Greater))
 }
 
-fn cuts_by_wording<T: Ord>(p: &[T]) -> Vec<usize> {
-    let live = |c: usize| (1..p.len()).filter(|&d| d != c).all(|d| passes(&p[c..], &p[d..]));
-    (1..p.len()).filter(|&c| live(c)).collect()
+fn is_live<T: Ord>(p: &[T], c: usize) -> bool {
+    (1..p.len()).filter(|&d| d != c).all(|d| passes(&p[c..], &p[d..]))
 }
 
-/// The live cuts of a pattern, rising.
-pub fn live_cuts<T: Ord + Debug>(p: &[T]) -> Vec<usize> {
+/// The stretch from d to c is a Lyndon word, c's tail begins with that word, and the tail is longer than the word.
+fn drops<T: Ord>(p: &[T], d: usize, c: usize) -> bool {
+    let (word, tail) = (&p[d..c], &p[c..]);
+    is_lyndon(word) && tail.starts_with(word) && tail.len() > word.len()
+}
+
+/// The live cuts, but for those that some earlier cut, 1 or later, drops.
+fn cuts_by_wording<T: Ord>(p: &[T]) -> Vec<usize> {
+    (1..p.len()).filter(|&c| is_live(p, c)).filter(|&c| !(1..c).any(|d| drops(p, d, c))).collect()
+}
+
+/// The listed cuts of a pattern, rising.
+pub fn listed_cuts<T: Ord + Debug>(p: &[T]) -> Vec<usize> {
     if p.len() > SHORT {
-        return Common::new(p).live_cuts();
+        return Common::new(p).listed_cuts();
     }
     let cuts = cuts_by_wording(p);
-    assert_eq!(cuts, Common::new(p).live_cuts(), "live cuts of {p:?}");
+    assert_eq!(cuts, Common::new(p).listed_cuts(), "listed cuts of {p:?}");
     cuts
 }
 
@@ -85,9 +96,14 @@ impl<'a, T: Ord> Common<'a, T> {
         Common { string, agree }
     }
 
+    /// How many symbols agree from i and from j on.
+    fn agreeing(&self, i: usize, j: usize) -> usize {
+        self.agree[i * (self.string.len() + 1) + j] as usize
+    }
+
     /// How the strings from i and from j, both up to `end`, compare at their first difference.
     fn first_difference(&self, i: usize, j: usize, end: usize) -> Option<Ordering> {
-        let k = self.agree[i * (self.string.len() + 1) + j] as usize;
+        let k = self.agreeing(i, j);
         match i.max(j) + k < end {
             true => Some(self.string[i + k].cmp(&self.string[j + k])),
             false => None,
@@ -115,9 +131,22 @@ impl<'a, T: Ord> Common<'a, T> {
         length
     }
 
-    fn live_cuts(&self) -> Vec<usize> {
+    fn is_live(&self, c: usize) -> bool {
         let m = self.string.len();
-        let passes = |c, d| self.first_difference(c, d, m) != Some(Ordering::Greater);
-        (1..m).filter(|&c| (1..m).all(|d| passes(c, d))).collect()
+        (1..m).all(|d| self.first_difference(c, d, m) != Some(Ordering::Greater))
+    }
+
+    /// A Lyndon word, smaller than each of its suffixes: a suffix with no difference is a prefix of it.
+    fn is_lyndon(&self, start: usize, end: usize) -> bool {
+        (start + 1..end).all(|i| self.first_difference(start, i, end) == Some(Ordering::Less))
+    }
+
+    fn drops(&self, d: usize, c: usize) -> bool {
+        let (word, tail) = (c - d, self.string.len() - c);
+        tail > word && self.agreeing(d, c) >= word && self.is_lyndon(d, c)
+    }
+
+    fn listed_cuts(&self) -> Vec<usize> {
+        (1..self.string.len()).filter(|&c| self.is_live(c)).filter(|&c| !(1..c).any(|d| self.drops(d, c))).collect()
     }
 }

@@ -57,9 +57,11 @@ Words = Union["Table", Buffer, Sequence[int]]
 
 _SAMPLES = 2_047
 _TABLE = 4_608
+_CUTS = 11
 _Bytes = ctypes.c_uint8 * _SAMPLES
 _Numbers = ctypes.c_uint32 * _SAMPLES
 _TableWords = ctypes.c_uint32 * _TABLE
+_Cuts = ctypes.c_uint32 * _CUTS
 _AT_ONCE = 100  # tables that `count_each` hands over by one call: some 2 ms for 1,400 samples each, in which no signal is looked at
 _LARGEST = 2**64 - 1  # of a start, a length or a position; no text reaches as far, so a larger number is refused alike
 
@@ -247,14 +249,19 @@ def locate(table: Words, pattern: Samples) -> list[int]:
 
 
 def live_cuts(pattern: Samples) -> list[int]:
-    """The live cuts of the pattern, rising, each once. Refusals: PatternEmpty, PatternTooLong.
+    """The live cuts of the pattern that a search tries, rising, each once, at most 11. Refusals: PatternEmpty, PatternTooLong.
+
+    A cut splits the pattern before a sample that is not the first; its tail is the samples from there on. It is live if its tail is not the greater where it first
+    differs from any other cut's tail. A live cut is left out if the samples from an earlier cut up to it are a Lyndon word, and its tail begins with that word and is
+    longer: where a pattern straddles the join of a rule's two halves, it is never cut there.
 
     >>> live_cuts(b"aaba")
     [1, 3]
+    >>> live_cuts(b"aaaa")
+    [1, 3]
     """
-    samples = _samples(pattern)
-    result = _Numbers()
-    return result[: _counted(_library.sirbolta_live_cuts(samples, len(samples), result, _SAMPLES))]
+    samples, result = _samples(pattern), _Cuts()
+    return result[: _counted(_library.sirbolta_live_cuts(samples, len(samples), result, _CUTS))]
 
 
 def lyndon_length(table: Words, position: int) -> int:
