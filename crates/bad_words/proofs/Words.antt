@@ -1,26 +1,98 @@
--- Two tests of numbers that exclude each other, and the words of a table in order: where one is bad behind good ones it is refused, and where none
--- is the number of rules is the answer.
-use mathlib.Core.Path.{_≡_, _∙_}
-use mathlib.Core.Bool.{true, false, not}
+-- The two words of a rule: which is bad is seen by the least word of a kind (`left-bad`, `other-bad`, `symbol-bad`). And the words of a table in order: where one
+-- is bad behind good ones it is refused, and where none is the number of rules is the answer.
+use mathlib.Core.Path.{_≡_, refl, sym, _∙_, ap, ap₂}
+use mathlib.Core.Bool.{Bool, true, false, not, cond, _&&_, _||_, or-false, or-true}
 use mathlib.Core.List.{List}
 use Prim.Native.Nat.{ℕ, _+_, _-_, _*_, _/_, _%_, _≤_, _<_}
 use native.Mathlib.Omega.{arith}
 use lib.ListN.{length, getD}
-use lib.Dec.{ltb, leb}
-use borrow.Author.Tests.{lt-ltb, le-ltb, le-leb, lt-leb, eq-eqb, ne-eqb}
+use lib.Dec.{eqb, ltb, leb}
+use borrow.Author.Tests.{lt-ltb, le-ltb, le-leb, lt-leb, eq-eqb, ne-eqb, eqb-true, ltb-true, leb-true}
 use Rattle.definitions.specs.declared.Answer.the-variants.{Done, Refused}
-use Rattle.definitions.specs.Table.{badFirst, badSecond, badWord, ruleCount}
+use Rattle.definitions.specs.Table.{kindOf, numberOf, badFirst, badSecond, badWord, ruleCount}
 use Rattle.definitions.specs.Services.{hasBadWord}
+use Rattle.lists.specs.Bools.{bool-ext, and-left, and-right, and-intro, cond-true, cond-false}
 use Rattle.lists.specs.Decisions.{checked}
-use Rattle.lists.specs.Numbers.{split-le, split-lt, least-is, least-none}
+use Rattle.lists.specs.Numbers.{split-lt, least-is, least-none}
+use Rattle.layout.specs.Layout.{KIND, RIGHT_HALF}
 
--- ---- two tests that exclude each other
+-- ---- the two words of a rule
 
-pub not-leb : (a b : ℕ) → ltb a b ≡ not (leb b a)
-not-leb a b = split-le b a (λ h. rw (le-ltb a b h, le-leb b a h)) (λ h. rw (lt-ltb a b h, lt-leb b a h))
+-- which of them is bad: 1 the first, else 2 the second, else 0
+abbrev pub badOf : ℕ → ℕ → ℕ → ℕ
+badOf r x y = cond (badFirst r x) 1 (cond (badSecond r x y) 2 0)
 
-pub not-ltb : (a b : ℕ) → leb a b ≡ not (ltb b a)
-not-ltb a b = split-le a b (λ h. rw (le-leb a b h, le-ltb b a h)) (λ h. rw (lt-leb a b h, lt-ltb b a h))
+pub bad-most : (r x y b : ℕ) → b ≡ badOf r x y → b ≤ 2
+bad-most r x y b e = go (badFirst r x) (badSecond r x y) e
+  where
+    go : (p q : Bool) → b ≡ cond p 1 (cond q 2 0) → b ≤ 2
+    go true q f = omega arith
+    go false true f = omega arith
+    go false false f = omega arith
+
+turned : (b : Bool) → _≡_ {A = ℕ} (cond (not b) 2 0) (cond b 0 2)
+turned true = refl
+turned false = refl
+
+-- a word from `least` on names a rule before r
+abbrev pub isHalf : ℕ → ℕ → ℕ → Bool
+isHalf r x least = leb least x && ltb (x - least) r
+
+-- such a word, where `least` is the least of kind k, is of that kind, and its number is below r
+half-kind : (k r x : ℕ) → r ≤ 2304 → isHalf r x (k * KIND) ≡ eqb (kindOf x) k && ltb (numberOf x) r
+unfolding kindOf numberOf
+half-kind k r x h =
+    bool-ext (isHalf r x (k * KIND)) (eqb (x / KIND) k && ltb (x % KIND) r)
+    (λ e.
+    let a = leb-true (k * KIND) x (and-left (leb (k * KIND) x) (ltb (x - k * KIND) r) e) in
+    let b = ltb-true (x - k * KIND) r (and-right (leb (k * KIND) x) (ltb (x - k * KIND) r) e) in
+    and-intro (eqb (x / KIND) k) (ltb (x % KIND) r) (eq-eqb (x / KIND) k (omega arith)) (lt-ltb (x % KIND) r (omega arith)))
+    (λ e.
+    let a = eqb-true (x / KIND) k (and-left (eqb (x / KIND) k) (ltb (x % KIND) r) e) in
+    let b = ltb-true (x % KIND) r (and-right (eqb (x / KIND) k) (ltb (x % KIND) r) e) in
+    and-intro (leb (k * KIND) x) (ltb (x - k * KIND) r) (le-leb (k * KIND) x (omega arith)) (lt-ltb (x - k * KIND) r (omega arith)))
+
+-- the symbol's number is at most 256
+symbol-kind : (x : ℕ) → eqb (kindOf x) 0 && leb (numberOf x) 256 ≡ leb x 256
+unfolding kindOf numberOf
+symbol-kind x =
+    bool-ext (eqb (x / KIND) 0 && leb (x % KIND) 256) (leb x 256)
+    (λ e.
+    let a = eqb-true (x / KIND) 0 (and-left (eqb (x / KIND) 0) (leb (x % KIND) 256) e) in
+    let b = leb-true (x % KIND) 256 (and-right (eqb (x / KIND) 0) (leb (x % KIND) 256) e) in
+    le-leb x 256 (omega arith))
+    (λ e.
+    let a = leb-true x 256 e in
+    and-intro (eqb (x / KIND) 0) (leb (x % KIND) 256) (eq-eqb (x / KIND) 0 (omega arith)) (le-leb (x % KIND) 256 (omega arith)))
+
+module _ (r x y : ℕ) (h : r ≤ 2304) where
+  first-is-bad : badFirst r x ≡ not (leb x 256 || isHalf r x KIND)
+  unfolding badFirst
+  first-is-bad = ap₂ {C = Bool} (λ a b. not (a || b)) (symbol-kind x) (sym (half-kind 1 r x h))
+
+  -- behind a left half
+  module _ (e : isHalf r x KIND ≡ true) where
+    left-kind : kindOf x ≡ 1
+    left-kind = eqb-true (kindOf x) 1 (and-left (eqb (kindOf x) 1) (ltb (numberOf x) r) (sym (half-kind 1 r x h) ∙ e))
+
+    left-second : badSecond r x y ≡ not (isHalf r y RIGHT_HALF)
+    unfolding badSecond
+    left-second = rw (left-kind, sym (half-kind 2 r y h)) (or-false (not (isHalf r y RIGHT_HALF)))
+
+    pub left-bad : badOf r x y ≡ cond (isHalf r y RIGHT_HALF) 0 2
+    left-bad = rw (first-is-bad, e, or-true (leb x 256), left-second) (turned (isHalf r y RIGHT_HALF))
+
+  -- behind another word
+  module _ (e : isHalf r x KIND ≡ false) where
+    pub other-bad : 256 < x → badOf r x y ≡ 1
+    other-bad l = rw (first-is-bad, e, lt-leb x 256 l)
+
+    pub symbol-bad : x ≤ 256 → badOf r x y ≡ cond (eqb (kindOf y) 3 && leb (numberOf y) (cond (eqb r 0) 65535 0)) 0 2
+    unfolding badSecond
+    symbol-bad l = rw (first-is-bad, le-leb x 256 l, symbol) (turned (eqb (kindOf y) 3 && leb (numberOf y) (cond (eqb r 0) 65535 0)))
+      where
+        symbol : kindOf x ≡ 0
+        symbol = eqb-true (kindOf x) 0 (and-left (eqb (kindOf x) 0) (leb (numberOf x) 256) (symbol-kind x ∙ le-leb x 256 l))
 
 -- ---- the words in order
 
@@ -51,7 +123,7 @@ refused-at t i n h b g = simp (least-is (badWord t) (length t) i h b g, lt-ltb i
 
 -- the words of rule r, behind good ones
 module _ {t : List ℕ} {r : ℕ} (g : Good t r) where
-  pub good-more : badFirst r (getD t (2 * r) 0) ≡ false → badSecond r (getD t (2 * r) 0) (getD t (2 * r + 1) 0) ≡ false → Good t (r + 1)
+  good-more : badFirst r (getD t (2 * r) 0) ≡ false → badSecond r (getD t (2 * r) 0) (getD t (2 * r + 1) 0) ≡ false → Good t (r + 1)
   good-more a b = record {
     words = λ i h. split-lt i (2 * r)
         (λ l. g .words i l)
@@ -60,13 +132,33 @@ module _ {t : List ℕ} {r : ℕ} (g : Good t r) where
   }
 
   module _ (h : r < ruleCount t) (e : length t ≡ 2 * (ruleCount t)) where
-    pub first-bad : badFirst r (getD t (2 * r) 0) ≡ true → Refused 6 (2 * r) ≡ checked (hasBadWord t) (ruleCount t)
+    first-bad : badFirst r (getD t (2 * r) 0) ≡ true → Refused 6 (2 * r) ≡ checked (hasBadWord t) (ruleCount t)
     first-bad b = refused-at t (2 * r) (ruleCount t) (omega arith) (first-is t r ∙ b) (g .words)
 
-    pub second-bad : badFirst r (getD t (2 * r) 0) ≡ false → badSecond r (getD t (2 * r) 0) (getD t (2 * r + 1) 0) ≡ true
+    second-bad : badFirst r (getD t (2 * r) 0) ≡ false → badSecond r (getD t (2 * r) 0) (getD t (2 * r + 1) 0) ≡ true
         → Refused 6 (2 * r + 1) ≡ checked (hasBadWord t) (ruleCount t)
     second-bad a b = refused-at t (2 * r + 1) (ruleCount t) (omega arith) (second-is t r ∙ b)
         (λ j l. split-lt j (2 * r) (λ k. g .words j k) (λ q. rw q (first-is t r ∙ a)) (λ k. absurd (omega arith)))
+
+-- the two words of rule r, behind good ones
+module _ {t : List ℕ} {r : ℕ} (g : Good t r) (b : ℕ) (e : b ≡ badOf r (getD t (2 * r) 0) (getD t (2 * r + 1) 0)) where
+  pub bad-refused : r < ruleCount t → length t ≡ 2 * (ruleCount t) → (b ≡ 0 → ⊥) → Refused 6 (2 * r + b - 1) ≡ checked (hasBadWord t) (ruleCount t)
+  bad-refused h k z = go (badFirst r (getD t (2 * r) 0)) (badSecond r (getD t (2 * r) 0) (getD t (2 * r + 1) 0)) refl refl
+    where
+      go : (p q : Bool) → badFirst r (getD t (2 * r) 0) ≡ p → badSecond r (getD t (2 * r) 0) (getD t (2 * r + 1) 0) ≡ q → Refused 6 (2 * r + b - 1) ≡ checked (hasBadWord t) (ruleCount t)
+      go true q i j = ap (λ (n : ℕ). Refused 6 n) (omega (arith, e ∙ cond-true (badFirst r (getD t (2 * r) 0)) 1 _ i)) ∙ first-bad g h k i
+      go false true i j =
+          ap (λ (n : ℕ). Refused 6 n) (omega (arith, e ∙ cond-false (badFirst r (getD t (2 * r) 0)) 1 _ i ∙ cond-true (badSecond r (getD t (2 * r) 0) (getD t (2 * r + 1) 0)) 2 0 j))
+          ∙ second-bad g h k i j
+      go false false i j = absurd (z (e ∙ cond-false (badFirst r (getD t (2 * r) 0)) 1 _ i ∙ cond-false (badSecond r (getD t (2 * r) 0) (getD t (2 * r + 1) 0)) 2 0 j))
+
+  pub good-passed : b ≡ 0 → Good t (r + 1)
+  good-passed z = go (badFirst r (getD t (2 * r) 0)) (badSecond r (getD t (2 * r) 0) (getD t (2 * r + 1) 0)) refl refl
+    where
+      go : (p q : Bool) → badFirst r (getD t (2 * r) 0) ≡ p → badSecond r (getD t (2 * r) 0) (getD t (2 * r + 1) 0) ≡ q → Good t (r + 1)
+      go true q i j = absurd (omega (arith, e ∙ cond-true (badFirst r (getD t (2 * r) 0)) 1 _ i))
+      go false true i j = absurd (omega (arith, e ∙ cond-false (badFirst r (getD t (2 * r) 0)) 1 _ i ∙ cond-true (badSecond r (getD t (2 * r) 0) (getD t (2 * r + 1) 0)) 2 0 j))
+      go false false i j = good-more g i j
 
 pub all-good : {t : List ℕ} {r : ℕ} → Good t r → ruleCount t ≤ r → length t ≡ 2 * (ruleCount t) → Done (ruleCount t) ≡ checked (hasBadWord t) (ruleCount t)
 all-good {t} {r} g h e = simp (least-none (badWord t) (length t) (λ j l. g .words j (omega arith)), le-ltb (length t) (length t) (omega arith))

@@ -1,5 +1,5 @@
 -- Rules of a table without a bad word, as they are read: a symbol, whose string is its rank (`symbol-read`), or two rules before it, whose strings
--- it spells one behind the other (`pair-read`). The same where the table stands in the work slice (`symbol-loaded`, `pair-loaded`).
+-- it spells one behind the other (`pair-read`). The same where the table stands in the work slice (`symbol-loaded`, `pair-loaded`); what is no symbol there is a pair (`pair-unless`).
 use mathlib.Core.Path.{_≡_, sym, _∙_, ap, ap₂, subst}
 use mathlib.Core.List.{List}
 use Prim.Native.Nat.{ℕ, _+_, _*_, _%_, _≤_, _<_}
@@ -8,13 +8,14 @@ use lib.ListN.{length, take, drop, getD}
 use lib.Seq.{getD-take}
 use borrow.Author.Tests.{lt-ltb, le-ltb}
 use Rattle.definitions.specs.Table.{wordOf, numberOf, ruleCount}
-use Rattle.lists.specs.Parts.{part}
+use Rattle.lists.specs.Numbers.{split-le}
+use Rattle.lists.specs.Parts.{part, part-at}
 use Rattle.lyndon.specs.Shapes.{Shaped}
 use Rattle.lyndon.specs.Ruled.{SymbolOf, PairOf, Ruled, symbol, pair, ruled}
 use Rattle.layout.specs.Layout.{TABLE, KIND}
 use Rattle.decoding.specs.declared.Rule.{Rule}
 use Rattle.decoding.specs.declared.Rule.the-variants.{Symbol, Pair}
-use Rattle.decoding.specs.Decoding.{ruleAt, ruleIn}
+use Rattle.decoding.specs.Decoding.{ruleAt, ruleIn, leftIn, rightIn}
 
 -- ---- what the code reads
 
@@ -25,6 +26,17 @@ read-symbol t r l = rw (lt-ltb (getD t (2 * r) 0) KIND l)
 pub read-pair : (t : List ℕ) (r u v : ℕ) → KIND ≤ getD t (2 * r) 0 → u ≡ getD t (2 * r) 0 % KIND → v ≡ getD t (2 * r + 1) 0 % KIND → Pair u v ≡ ruleAt t r
 unfolding ruleAt
 read-pair t r u v l e f = rw (le-ltb (getD t (2 * r) 0) KIND l, e, f)
+
+-- a rule in the work slice that is no symbol is the pair of its two halves
+pub pair-unless : (w : List ℕ) (r : ℕ) → r < 2304 → ((a b : ℕ) → ruleIn w r ≡ Symbol a b → ⊥) → ruleIn w r ≡ Pair (leftIn w r) (rightIn w r)
+unfolding ruleIn leftIn rightIn part
+pair-unless w r h k =
+    let t = take 4608 (drop TABLE w) in
+    let x : getD t (2 * r) 0 ≡ getD w (TABLE + 2 * r) 0 = part-at TABLE 4608 w (2 * r) 0 (omega arith) in
+    let y : getD t (2 * r + 1) 0 ≡ getD w (TABLE + 2 * r + 1) 0 = part-at TABLE 4608 w (2 * r + 1) 0 (omega arith) ∙ ap (λ (i : ℕ). getD w i 0) (omega arith) in
+    split-le KIND (getD t (2 * r) 0)
+    (λ l. sym (read-pair t r (leftIn w r) (rightIn w r) l (ap (λ (n : ℕ). n % KIND) (sym x)) (ap (λ (n : ℕ). n % KIND) (sym y))))
+    (λ l. absurd (k (getD t (2 * r) 0) (getD t (2 * r + 1) 0 % KIND) (sym (read-symbol t r l))))
 
 -- a pair by its words
 pub words-pair : (t : List ℕ) (r u v : ℕ) → u < KIND → v < KIND → getD t (2 * r) 0 ≡ wordOf 1 u → getD t (2 * r + 1) 0 ≡ wordOf 2 v → ruleAt t r ≡ Pair u v

@@ -17,3 +17,10 @@ ruleAt t r =
 -- the same in the table area of the work slice
 unfoldable pub ruleIn : List ℕ → ℕ → Rule
 ruleIn w r = ruleAt (take 4608 (drop TABLE w)) r
+
+-- the halves of rule r there, where it is a pair
+unfoldable pub leftIn : List ℕ → ℕ → ℕ
+leftIn w r = getD w (TABLE + 2 * r) 0 % KIND
+
+unfoldable pub rightIn : List ℕ → ℕ → ℕ
+rightIn w r = getD w (TABLE + 2 * r + 1) 0 % KIND

@@ -11,7 +11,7 @@ ghost use lib.ListN.{length};
 ghost use Rattle.definitions.specs.Table.{chairOf};
 ghost use Rattle.lyndon.specs.Shapes.{Shaped};
 ghost use Rattle.layout.specs.Layout.{Readable};
-ghost use Rattle.decoding.specs.Decoding.{ruleAt, ruleIn};
+ghost use Rattle.decoding.specs.Decoding.{ruleAt, ruleIn, leftIn, rightIn};
 
 // A symbol's number and what stands beside it; or the left and the right half of a pair.
 pub enum Rule {
@@ -38,6 +38,22 @@ pub fn rule_in(work: &[u32], r: usize) -> Rule
     ensures { λ x. ⌜ x ≡ ruleIn (now (work .entry)) r ⌝ }
 {
     rule_of(&work[TABLE..TABLE_END], r)
+}
+
+// The left half of rule r, where it is a pair.
+pub fn left_in(work: &[u32], r: usize) -> usize
+    requires { ⌜ Readable (now work) r ⌝ }
+    ensures { λ u. ⌜ u ≡ leftIn (now (work .entry)) r ⌝ }
+{
+    wide(work[TABLE + 2 * r] % KIND)
+}
+
+// The right half of rule r, where it is a pair.
+pub fn right_in(work: &[u32], r: usize) -> usize
+    requires { ⌜ Readable (now work) r ⌝ }
+    ensures { λ v. ⌜ v ≡ rightIn (now (work .entry)) r ⌝ }
+{
+    wide(work[TABLE + 2 * r + 1] % KIND)
 }
 
 // The chair number of a table: it stands beside the symbol of rule 0.

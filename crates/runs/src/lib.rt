@@ -31,12 +31,12 @@ pub fn scan(order: Order, pattern: &[u8], start: usize) -> Run
     while end < pattern.len() {
         let a = rank_of(order, pattern[back]);
         let b = rank_of(order, pattern[end]);
+        if b < a {
+            return Run { start, back, end };
+        }
         if a == b {
             back += 1;
         } else {
-            if b < a {
-                return Run { start, back, end };
-            }
             back = start;
         }
         end += 1;

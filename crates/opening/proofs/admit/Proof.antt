@@ -36,7 +36,8 @@ words-fit-requires : tie.Need-words-fit-requires
 words-fit-requires c κs =
     let l = c .before .before in
     let k = length (l .before .before .before .before .before .before .args .table .now) in
-    length-passed k (done-met (tableLength k) k (l .length-fits .ensures) (c .enum-told3 .given .1) .0) .1
+    let p = length-passed k (done-met (tableLength k) k (l .length-fits .ensures) (c .enum-told3 .given .1) .0) in
+    (p .1, p .2)
 
 returns-3 : tie.Need-returns-3
 unfolding tableChecks

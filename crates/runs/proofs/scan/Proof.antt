@@ -25,28 +25,29 @@ shared-slice-read-rank-of : tie.Need-shared-slice-read-rank-of Inv-loop μ-loop
 shared-slice-read-rank-of c = omega (arith, c .before .before .loop .inv .high)
 
 add-back : tie.Need-add-back Inv-loop μ-loop
-add-back c = omega (arith, c .before .before .before .before .before .before .loop .inv .high)
+add-back c = omega (arith, c .before .before .before .before .before .before .before .loop .inv .high)
 
 returns : tie.Need-returns Inv-loop μ-loop
 returns c =
-    let b = c .before .before in
+    let b = c .before in
     let a = b .before .before in
     let at = a .before .before .before in
     let s = at .before .before .args in
-    (refl, samples-broken (s .order) (s .pattern .now) (s .start) (at .loop .back) (at .loop .end) (at .loop .inv) (omega arith) (a .rank-of .result) (b .rank-of2 .result) (a .rank-of .ensures) (b .rank-of2 .ensures) (c .if2 .taken))
+    (refl, samples-broken (s .order) (s .pattern .now) (s .start) (at .loop .back) (at .loop .end) (at .loop .inv) (omega arith) (a .rank-of .result) (b .rank-of2 .result) (a .rank-of .ensures) (b .rank-of2 .ensures) (c .if1 .taken))
 
 loop-again : tie.Need-loop-again Inv-loop μ-loop
 loop-again c =
-    let b = c .before in
+    let i = c .before in
+    let b = i .before in
     let a = b .before .before in
     let at = a .before .before .before in
     let s = at .before .before .args in
     let ranks = map (rankOf (s .order)) (s .pattern .now) in ⊎-elim
     (λ w. subst (λ (i : ℕ). Running ranks (s .start) i (at .loop .end + 1)) (sym (w .1))
     (samples-equal (s .order) (s .pattern .now) (s .start) (at .loop .back) (at .loop .end) (at .loop .inv) (omega arith) (a .rank-of .result) (b .rank-of2 .result) (a .rank-of .ensures) (b .rank-of2 .ensures) (w .0 .taken)))
-    (λ w. subst (λ (i : ℕ). Running ranks (s .start) i (at .loop .end + 1)) (sym (w .2))
-    (samples-greater (s .order) (s .pattern .now) (s .start) (at .loop .back) (at .loop .end) (at .loop .inv) (omega arith) (a .rank-of .result) (b .rank-of2 .result) (a .rank-of .ensures) (b .rank-of2 .ensures) (w .0 .left) (w .1 .left)))
-    (c .if1 .came)
+    (λ w. subst (λ (i : ℕ). Running ranks (s .start) i (at .loop .end + 1)) (sym (w .1))
+    (samples-greater (s .order) (s .pattern .now) (s .start) (at .loop .back) (at .loop .end) (at .loop .inv) (omega arith) (a .rank-of .result) (b .rank-of2 .result) (a .rank-of .ensures) (b .rank-of2 .ensures) (w .0 .left) (omega (arith, i .if1 .left))))
+    (c .if2 .came)
 
 returns-2 : tie.Need-returns-2 Inv-loop μ-loop
 returns-2 c =
@@ -57,5 +58,5 @@ returns-2 c =
 pub scan-spec : {M : Type 1} → statement M
 scan-spec =
     tie.close
-    (tie.spec Inv-loop μ-loop (λ c. omega arith) loop-holds shared-slice-read-rank-of (λ c κs. tt) (λ c. omega arith) (λ c κs. tt) add-back returns
+    (tie.spec Inv-loop μ-loop (λ c. omega arith) loop-holds shared-slice-read-rank-of (λ c κs. tt) (λ c. omega arith) (λ c κs. tt) returns add-back
     (λ c. omega arith) (λ c. omega arith) loop-again returns-2)
