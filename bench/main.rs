@@ -1,12 +1,16 @@
-//! One call of a service under callgrind: `bench SIDE SERVICE FAMILY SAMPLES [PATTERN]`. SIDE is `library` or `rust`; SERVICE is `build`,
+//! One call of a service under callgrind: `bench SIDE SERVICE FAMILY SAMPLES [PATTERN [KIND]]`. SIDE is `library` or `rust`; SERVICE is `build`,
 //! `check`, `read`, `copied` (reading, beside a Rust that copies the text), `extract` (the whole text), `count`, `locate`, `cuts` (the live cuts of
 //! the pattern that a search tries), `lyndon_length` (at the first position), `lyndon_array`, `to_signed` (of the former table), or `doubling`: the check of a table of SAMPLES
-//! rules that double. FAMILY 100 + m is a block of m random bytes, repeated. The pattern is the PATTERN samples in the middle of the text. It prints the answer
-//! and a checksum of each lent slice afterwards, which `bench/run` compares between the sides. The lent slices hold other values before the call.
+//! rules that double. FAMILY 100 + m is a block of m random bytes, repeated. The pattern is the PATTERN samples in the middle of the text; with the KIND `nested`
+//! so many nested samples; and with a number k as KIND so many that are a^k, then b up to the last one, and a. It prints the answer and a checksum of each lent
+//! slice afterwards, which `bench/run` compares between the sides. The lent slices hold other values before the call.
 
 mod baseline;
 #[path = "../tests/former.rs"]
 mod former;
+#[allow(dead_code)]
+#[path = "../tests/inputs.rs"]
+mod inputs;
 #[path = "../tests/library.rs"]
 mod library;
 mod search;
@@ -103,13 +107,29 @@ fn main() {
         "to_signed" => former_table(&text, table_of),
         _ => table_of(&text),
     };
-    let pattern = texts::middle(&text, number(5));
+    let pattern = pattern(&text, number(5), args.get(6).map(String::as_str));
     let given = Given { service, text, table, pattern };
     let mut lent = lent();
     let measured = if args[1] == "library" { measured_library } else { measured_rust };
     let answer = measured(&given, &mut lent);
     let (work, words, bytes) = (checksum(&lent.work), checksum(&lent.words), checksum(&lent.bytes));
     println!("{} {} {answer:?} {work} {words} {bytes}", given.service, texts::FAMILIES.get(family).unwrap_or(&"a repeated block"));
+}
+
+fn pattern(text: &[u8], m: usize, kind: Option<&str>) -> Vec<u8> {
+    match kind {
+        None => texts::middle(text, m),
+        Some("nested") => inputs::nested(*text.iter().min_by_key(|x| **x as i8).unwrap(), m),
+        Some(k) => differing(k.parse().unwrap(), m),
+    }
+}
+
+/// m samples that differ from equal ones behind the k-th, but for the last: a^k, b and a.
+fn differing(k: usize, m: usize) -> Vec<u8> {
+    let mut s = vec![b'a'; k];
+    s.resize(m - 1, b'b');
+    s.push(b'a');
+    s
 }
 
 fn table_of(text: &[u8]) -> Vec<u32> {

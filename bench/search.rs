@@ -13,12 +13,12 @@ fn scan(pattern: &[u8], start: usize) -> (usize, usize) {
     let (mut back, mut end) = (start, start + 1);
     while end < pattern.len() {
         let (a, b) = (rank_of(at(pattern, back)), rank_of(at(pattern, end)));
+        if b < a {
+            return (back, end);
+        }
         if a == b {
             back += 1;
         } else {
-            if b < a {
-                return (back, end);
-            }
             back = start;
         }
         end += 1;
@@ -104,36 +104,57 @@ fn word(work: &[u32], area: usize, r: usize) -> usize {
     at(work, area + r) as usize
 }
 
-/// The two halves of a pair rule; none of a symbol's.
-fn halves(work: &[u32], r: usize) -> Option<(usize, usize)> {
-    let x = at(work, TABLE + 2 * r);
-    if x < 1 << 30 {
-        return None;
-    }
-    let y = at(work, TABLE + 2 * r + 1);
-    Some((value(x) as usize, value(y) as usize))
+/// The number in word i of the table, a half of a pair rule.
+fn half(work: &[u32], i: usize) -> usize {
+    value(at(work, TABLE + i)) as usize
 }
 
-/// Whether the pattern, m samples, straddles a join with `right` symbols behind it at cut c.
-fn straddles(work: &[u32], m: usize, c: usize, join: usize, right: usize) -> bool {
-    if right < m - c {
-        return false;
+/// The two halves of a pair rule; none of a symbol's.
+fn halves(work: &[u32], r: usize) -> Option<(usize, usize)> {
+    if at(work, TABLE + 2 * r) < 1 << 30 {
+        return None;
     }
+    Some((half(work, 2 * r), half(work, 2 * r + 1)))
+}
+
+/// The longest tail of a pattern's n listed cuts, which is that of the first; 0 if it has none.
+fn longest_tail(work: &[u32], m: usize, n: usize) -> usize {
+    if n == 0 {
+        return 0;
+    }
+    m - at(work, CUTS) as usize
+}
+
+/// The index of the first listed cut whose tail has at most `right` samples; where not all fit, it is sought from the end.
+fn first_fitting(work: &[u32], m: usize, n: usize, longest: usize, right: usize) -> usize {
+    if longest <= right {
+        return 0;
+    }
+    let low = (m - right) as u32;
+    let mut i = n;
+    while low <= at(work, CUTS + i - 1) {
+        i -= 1;
+    }
+    i
+}
+
+/// Whether the pattern, m samples, straddles a join at cut c, where both parts fit.
+fn straddles(work: &[u32], m: usize, c: usize, join: usize) -> bool {
     let place = join - c;
     equal(part(work, place, place + m), part(work, PATTERN, PATTERN + m))
 }
 
 /// 4096 and the cut, among n that are listed, at which the pattern straddles the join of two strings, the first of which stands at a place; 0 if it does not.
 /// The cuts rise: behind one that is greater than the first string none fits.
-fn cut_at_join(work: &[u32], m: usize, n: usize, place: usize, left: usize, right: usize) -> u32 {
+fn cut_at_join(work: &[u32], m: usize, n: usize, longest: usize, place: usize, left: usize, right: usize) -> u32 {
     let join = place + left;
-    let mut i = 0;
+    let mut i = first_fitting(work, m, n, longest, right);
     while i < n {
         let c = at(work, CUTS + i) as usize;
         if left < c {
             return 0;
         }
-        if straddles(work, m, c, join, right) {
+        if straddles(work, m, c, join) {
             return 4096 + c as u32;
         }
         i += 1;
@@ -146,30 +167,47 @@ fn found(both: usize, joined: u32) -> u32 {
     both as u32 * 4096 + joined
 }
 
-/// The occurrences in rule r times 4096 and the cut at its join.
-fn found_in(work: &[u32], m: usize, n: usize, r: usize) -> u32 {
+/// What is found in rule r, of a pattern of one sample: it has no cut.
+fn found_of_one(work: &[u32], r: usize) -> u32 {
     let Some((u, v)) = halves(work, r) else {
-        let found = m == 1 && at(work, word(work, PLACES, r)) == at(work, PATTERN);
+        let found = at(work, word(work, PLACES, r)) == at(work, PATTERN);
         return if found { 4096 } else { 0 };
     };
+    found(word(work, FOUND, u) / 4096 + word(work, FOUND, v) / 4096, 0)
+}
+
+/// The occurrences in rule r times 4096 and the cut at its join. A string shorter than the pattern has none; one of two symbols or more is a pair's.
+fn found_in(work: &[u32], m: usize, n: usize, longest: usize, r: usize) -> u32 {
+    if m < 2 {
+        return found_of_one(work, r);
+    }
+    if at(work, LENGTHS + r) < m as u32 {
+        return 0;
+    }
+    let (u, v) = (half(work, 2 * r), half(work, 2 * r + 1));
     let (left, right) = (word(work, LENGTHS, u), word(work, LENGTHS, v));
     let both = word(work, FOUND, u) / 4096 + word(work, FOUND, v) / 4096;
-    let cut = cut_at_join(work, m, n, word(work, PLACES, r), left, right);
+    let cut = cut_at_join(work, m, n, longest, word(work, PLACES, r), left, right);
     found(both, cut)
 }
 
 fn count_rules(work: &mut [u32], m: usize, n: usize, rules: usize) {
+    let longest = longest_tail(work, m, n);
     let mut r = 0;
     while r < rules {
-        let x = found_in(work, m, n, r);
+        let x = found_in(work, m, n, longest, r);
         put(work, FOUND + r, x);
         r += 1;
     }
 }
 
-/// Counts the occurrences of a pattern in the text that is loaded.
+/// Counts the occurrences of a pattern in the text that is loaded; none, where the root's string is shorter.
 fn count_loaded(pattern: &[u8], work: &mut [u32], rules: usize) -> usize {
     let m = pattern.len();
+    if at(work, LENGTHS + rules - 1) < m as u32 {
+        clear(work, FOUND, FOUND + rules);
+        return 0;
+    }
     write_ranks(pattern, unsafe { work.get_unchecked_mut(PATTERN..PATTERN + m) });
     let k = floor_log2(m);
     let n = list(pattern, unsafe { work.get_unchecked_mut(CUTS..CUTS + k + 1) });

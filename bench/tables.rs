@@ -7,19 +7,28 @@ pub fn value(word: u32) -> u32 {
     word % (1 << 30)
 }
 
-fn bad_first(r: usize, x: u32) -> bool {
-    match x >> 30 {
-        0 => 256 < value(x),
-        1 => r <= value(x) as usize,
-        _ => true,
-    }
+/// Whether a word names a rule before r, as a half whose words begin at `least`.
+fn is_half(r: usize, x: u32, least: u32) -> bool {
+    (x.wrapping_sub(least) as usize) < r
 }
 
-fn bad_second(r: usize, x: u32, y: u32) -> bool {
-    match (x >> 30, y >> 30) {
-        (1, 2) => r <= value(y) as usize,
-        (0, 3) => (if r == 0 { 65535 } else { 0 }) < value(y),
-        _ => true,
+/// Whether y may stand beside the symbol of rule r.
+fn is_beside_symbol(r: usize, y: u32) -> bool {
+    y >> 30 == 3 && value(y) <= if r == 0 { 65535 } else { 0 }
+}
+
+/// Which of the two words of rule r is bad: 1 the first, else 2 the second, else 0.
+fn bad_of(r: usize, x: u32, y: u32) -> usize {
+    if is_half(r, x, 1 << 30) {
+        return if is_half(r, y, 2 << 30) { 0 } else { 2 };
+    }
+    if 256 < x {
+        return 1;
+    }
+    if is_beside_symbol(r, y) {
+        0
+    } else {
+        2
     }
 }
 
@@ -28,12 +37,9 @@ fn bad_word(table: &[u32]) -> usize {
     let n = table.len() / 2;
     let mut r = 0;
     while r < n {
-        let (x, y) = (at(table, 2 * r), at(table, 2 * r + 1));
-        if bad_first(r, x) {
-            return 2 * r;
-        }
-        if bad_second(r, x, y) {
-            return 2 * r + 1;
+        let bad = bad_of(r, at(table, 2 * r), at(table, 2 * r + 1));
+        if bad != 0 {
+            return 2 * r + bad - 1;
         }
         r += 1;
     }

@@ -119,11 +119,30 @@ impl Comparison {
         for n in [1, 2, 3, 4, 7, 8, 9, 1023, 1024, 1025, 2047] {
             self.power(vec![255; n]);
             self.power(nested(b'a', n));
+            self.nested_in_parts(n);
             for _ in 0..12 {
                 let mut pattern = self.generator.power(n);
                 pattern[0] = self.generator.one_of(&[pattern[0], 128, 127]);
                 self.power(pattern);
             }
+        }
+    }
+
+    /// Ends of a pattern with many listed cuts, counted and located in drives made of its parts: at a join some tails fit and others do not.
+    fn nested_in_parts(&mut self, n: usize) {
+        let pattern = nested(b'a', n);
+        for _ in 0..8 {
+            let mut text = Vec::new();
+            while text.len() < 2 * n {
+                let i = self.generator.below(n);
+                let j = i + self.generator.below(n - i) + 1;
+                text.extend(&pattern[i..j]);
+            }
+            text.truncate(2047);
+            let table = self.table_of(&text, 40);
+            let i = self.generator.below(n);
+            self.compare_once(Call::Count { table: table.clone(), pattern: pattern[i..].to_vec() });
+            self.compare_once(Call::Locate { table, pattern: pattern[i / 2..].to_vec() });
         }
     }
 

@@ -1,9 +1,11 @@
--- What is said of a join: the cut at which an occurrence straddles it (`JoinCut`), and the cuts that are tried (`Tried`). w is the work slice, where the ranks
+-- What is said of a join: the cut at which an occurrence straddles it (`JoinCut`), the cuts that are tried (`Tried`), and those whose tails fit (`FitsFrom`, `longestTail`). w is the work slice, where the ranks
 -- of the pattern stand from PATTERN on and its cuts from CUTS on.
 use mathlib.Core.Path.{_≡_}
+use mathlib.Core.Bool.{cond}
 use mathlib.Core.List.{List, [], _∷_}
-use Prim.Native.Nat.{ℕ, zero, suc, _-_, _≤_, _<_}
-use lib.ListN.{length}
+use Prim.Native.Nat.{ℕ, zero, suc, _+_, _-_, _≤_, _<_}
+use lib.ListN.{length, getD}
+use lib.Dec.{eqb}
 use Rattle.definitions.specs.Occurrences.{straddling}
 use Rattle.lists.specs.Parts.{part}
 use Rattle.lyndon.specs.Factorization.{Std}
@@ -16,6 +18,16 @@ pub record Tried (m n : ℕ) (w : List ℕ) : Type 0 where
   pub short : m ≤ 2047
   pub few : n ≤ 11
   pub cuts : part CUTS n w ≡ triedCuts (part PATTERN m w)
+
+-- the longest tail of these cuts: that of the first, 0 where there is none
+unfoldable pub longestTail : ℕ → ℕ → List ℕ → ℕ
+longestTail m n w = cond (eqb n 0) 0 (m - getD w CUTS 0)
+
+-- the cuts from number i on are those whose tails have at most `right` samples
+pub record FitsFrom (i m n right : ℕ) (w : List ℕ) : Type 0 where
+  pub most : i ≤ n
+  pub before : (j : ℕ) → j < i → right < m - getD w (CUTS + j) 0
+  pub behind : (j : ℕ) → i ≤ j → j < n → m - getD w (CUTS + j) 0 ≤ right
 
 -- the place of an occurrence cut at c at a join behind n symbols; none where c is 0
 unfoldable pub cutPlace : ℕ → ℕ → List ℕ

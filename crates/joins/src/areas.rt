@@ -5,6 +5,8 @@ use layout::PACK;
 use layout::PLACES;
 use slices::wide;
 ghost use mathlib.Core.Path.{_≡_};
+ghost use Prim.Native.Nat.{_≤_};
+ghost use lib.Dec.{ltb};
 ghost use Rattle.layout.specs.Layout.{Readable, lengthIn, placeIn, countIn, joinCutIn};
 
 // The length of rule r's string.
@@ -13,6 +15,14 @@ pub fn length_of(work: &[u32], r: usize) -> usize
     ensures { λ n. ⌜ n ≡ lengthIn (now (work .entry)) r ⌝ }
 {
     wide(work[LENGTHS + r])
+}
+
+// Whether it has fewer than m symbols.
+pub fn is_shorter(work: &[u32], r: usize, m: usize) -> bool
+    requires { ⌜ Readable (now work) r × (m ≤ 2047) ⌝ }
+    ensures { λ b. ⌜ b ≡ ltb (lengthIn (now (work .entry)) r) m ⌝ }
+{
+    work[LENGTHS + r] < m as u32
 }
 
 // A place at which it stands.

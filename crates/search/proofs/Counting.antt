@@ -1,6 +1,6 @@
 -- What is found in a symbol rule is one comparison (`symbol-found`); in a pair rule it is what its halves have, and one
 -- more where its join has a cut (`pair-occurs`, `pair-found`). Storing it changes nothing that was counted, so one rule more is (`counted-more`).
-use mathlib.Core.Path.{_≡_, refl, sym, _∙_, ap, ap₂, subst}
+use mathlib.Core.Path.{_≡_, refl, sym, _∙_, ap, subst}
 use mathlib.Core.Bool.{Bool, true, false, cond, _&&_}
 use mathlib.Core.List.{List, [], _∷_, _++_, map}
 use Prim.Native.Nat.{ℕ, _+_, _/_, _%_, _≤_, _<_, min}
@@ -8,7 +8,6 @@ use native.Mathlib.Omega.{arith}
 use lib.ListN.{length, getD, set, length-append, length-map, length-set}
 use lib.Seq.{getD-set-same, getD-set-other, take-set-le, drop-set-lt}
 use lib.Dec.{eqb}
-use borrow.Author.Tests.{ne-eqb}
 use Rattle.definitions.specs.declared.Order.{Order}
 use Rattle.definitions.specs.Words.{below, begins}
 use Rattle.definitions.specs.Table.{rankOf, tableOf, ruleString, leftHalf, rightHalf, ruleCount}
@@ -17,13 +16,13 @@ use Rattle.lists.specs.Bools.{contra}
 use Rattle.lists.specs.Numbers.{split-lt}
 use Rattle.lists.specs.Parts.{part, part-at, part-set-before}
 use Rattle.lyndon.specs.Joins.{triedCuts, occurrences-join}
-use Rattle.lyndon.specs.Occurrences.{occurrences-most, longer-nowhere}
+use Rattle.lyndon.specs.Occurrences.{occurrences-most}
 use Rattle.lyndon.specs.Stored.{rule-range}
 use Rattle.layout.specs.Layout.{TABLE, FOUND, PATTERN, CUTS, PACK, Readable, lengthIn, placeIn, countIn}
 use Rattle.decoding.specs.declared.Rule.the-variants.{Pair}
 use Rattle.decoding.specs.Decoding.{ruleIn}
 use Rattle.lyndon.specs.Ruled.{SymbolOf, PairOf}
-use Rattle.joins.specs.Joining.{cutPlace, JoinCut}
+use Rattle.joins.specs.Joining.{longestTail, cutPlace, JoinCut}
 use Rattle.joins.proofs.Joining.{cut-place-size}
 use Rattle.search.specs.Found.{occursIn, acrossJoin, FoundIn}
 use Rattle.search.specs.Searching.{Counting, CountedBefore, SymbolTurn, FoundFor}
@@ -31,53 +30,52 @@ use Rattle.search.proofs.Standing.{PlacedHalves, placed-symbol, rule-st
 
 -- ---- a symbol
 
--- whether a pattern of m symbols, the first of which is b, is the one symbol a
-abbrev pub isSymbol : ℕ → ℕ → ℕ → Bool
-isSymbol m b a = eqb m 1 && eqb b a
-
-one-count : (p : List ℕ) (a : ℕ) → 0 < length p → length (occurrences p (a ∷ [])) ≡ cond (isSymbol (length p) (getD p 0 0) a) 1 0
+one-count : (p : List ℕ) (a : ℕ) → length p ≡ 1 → length (occurrences p (a ∷ [])) ≡ cond (eqb (getD p 0 0) a) 1 0
 unfolding occurrences below begins
 one-count [] a h = absurd (omega arith)
 one-count (b ∷ []) a h = go (eqb b a)
   where
-    go : (x : Bool) → length (_++_ {A = ℕ} (cond (x && true) (0 ∷ []) []) []) ≡ cond (eqb 1 1 && x) 1 0
+    go : (x : Bool) → length (_++_ {A = ℕ} (cond (x && true) (0 ∷ []) []) []) ≡ cond x 1 0
     go true = refl
     go false = refl
-one-count (b ∷ c ∷ q) a h = ap length (longer-nowhere (b ∷ c ∷ q) (a ∷ []) (omega arith)) ∙ rw (ne-eqb (length (b ∷ c ∷ q)) 1 (λ e. omega arith))
+one-count (b ∷ c ∷ q) a h = absurd (omega arith)
 
-module _ {m r : ℕ} {w : List ℕ} (h : SymbolTurn m r w) where
+module _ {r : ℕ} {w : List ℕ} (h : SymbolTurn r w) where
+  abbrev turn : CountedBefore (h .one .size) (h .one .cuts) r w
+  turn = h .one .turn
+
   abbrev o : Order
-  o = h .turn .order
+  o = turn .order
 
-  symbol : SymbolOf (tableOf o (h .turn .text) (h .turn .chair)) r (h .number) (h .beside)
-  symbol = placed-symbol o (h .turn .text) (h .turn .chair) w (h .turn .counting .loaded) r (h .turn .low) (h .number) (h .beside) (h .rule)
+  symbol : SymbolOf (tableOf o (turn .text) (turn .chair)) r (h .number) (h .beside)
+  symbol = placed-symbol o (turn .text) (turn .chair) w (turn .counting .loaded) r (turn .low) (h .number) (h .beside) (h .rule)
 
   -- the rank that stands at the rule's place is its string
-  symbol-stands : ruleString o (tableOf o (h .turn .text) (h .turn .chair)) r ≡ getD w (placeIn w r) 0 ∷ []
+  symbol-stands : ruleString o (tableOf o (turn .text) (turn .chair)) r ≡ getD w (placeIn w r) 0 ∷ []
   symbol-stands =
       let s = symbol .string o in
-      let (k, e) = rule-stands o (h .turn .text) (h .turn .chair) w (h .turn .counting .loaded) r (h .turn .low) in
+      let (k, e) = rule-stands o (turn .text) (turn .chair) w (turn .counting .loaded) r (turn .low) in
       let x = placeIn w r in
-      let n = length (ruleString o (tableOf o (h .turn .text) (h .turn .chair)) r) in
+      let n = length (ruleString o (tableOf o (turn .text) (turn .chair)) r) in
       let z : x + 0 ≡ x = omega arith in
       s ∙ ap (λ (a : ℕ). a ∷ []) (ap (λ (l : List ℕ). getD l 0 0) (sym s ∙ sym e) ∙ part-at x n w 0 0 (omega (arith, ap length s)) ∙ ap (λ (i : ℕ). getD w i 0) z)
 
   pub symbol-place : placeIn w r < 2048
-  symbol-place = omega (arith, ap length (symbol .string o), rule-stands o (h .turn .text) (h .turn .chair) w (h .turn .counting .loaded) r (h .turn .low) .0)
+  symbol-place = omega (arith, ap length (symbol .string o), rule-stands o (turn .text) (turn .chair) w (turn .counting .loaded) r (turn .low) .0)
 
-  pub symbol-found : (x : ℕ) (b : Bool) → isSymbol m (getD w PATTERN 0) (getD w (placeIn w r) 0) ≡ b → x / PACK ≡ cond b 1 0 → x % PACK ≡ 0 → FoundFor (h .turn) x
+  pub symbol-found : (x : ℕ) (b : Bool) → eqb (getD w PATTERN 0) (getD w (placeIn w r) 0) ≡ b → x / PACK ≡ cond b 1 0 → x % PACK ≡ 0 → FoundFor (h .one .turn) x
   unfolding occursIn
   symbol-found x b e f z =
-      let k = h .turn .counting in
-      let P = map (rankOf o) (h .turn .samples) in
-      let size : length P ≡ m = length-map (h .turn .samples) (rankOf o) ∙ sym (k .size) in
+      let k = turn .counting in
+      let P = map (rankOf o) (turn .samples) in
       let here : PATTERN + 0 ≡ PATTERN = omega arith in
-      let first : getD P 0 0 ≡ getD w PATTERN 0 = ap (λ (l : List ℕ). getD l 0 0) (sym (k .ranks)) ∙ part-at PATTERN m w 0 0 (k .tried .filled) ∙ ap (λ (i : ℕ). getD w i 0) here in
+      let first : getD P 0 0 ≡ getD w PATTERN 0 =
+      ap (λ (l : List ℕ). getD l 0 0) (sym (k .ranks)) ∙ part-at PATTERN (h .one .size) w 0 0 (k .tried .filled) ∙ ap (λ (i : ℕ). getD w i 0) here in
       let a = getD w (placeIn w r) 0 in
       record {
         number =
             f
-            ∙ sym (one-count P a (omega (arith, k .tried .filled)) ∙ ap₂ {C = ℕ} (λ (i d : ℕ). cond (isSymbol i d a) 1 0) size first ∙ ap (λ (y : Bool). cond y 1 0) e)
+            ∙ sym (one-count P a (omega (arith, length-map (turn .samples) (rankOf o), k .size, k .tried .filled, h .one .short)) ∙ ap (λ (d : ℕ). cond (eqb d a) 1 0) first ∙ ap (λ (y : Bool). cond y 1 0) e)
             ∙ ap (λ (s : List ℕ). length (occurrences P s)) (sym symbol-stands);
         inside = λ q. contra q (symbol .no-pair);
         cut = λ q. contra q (symbol .no-pair);
@@ -202,6 +200,11 @@ counted-more o p text chair m n r w x h low f =
           (λ e. subst (λ (i : ℕ). FoundIn o (tableOf o text chair) (map (rankOf o) p) i (getD (set w (FOUND + r) x) (FOUND + i) 0)) (sym e) (subst (λ (y : ℕ). FoundIn o (tableOf o text chair) (map (rankOf o) p) r y) (sym (getD-set-same w (FOUND + r) x 0 (omega arith))) f))
           (λ k. absurd (omega arith));
     }
+
+-- what is found is written before the cuts
+pub longest-kept : (m n r : ℕ) (w v : List ℕ) (x : ℕ) → r < 2304 → v ≡ set w (FOUND + r) x → longestTail m n v ≡ longestTail m n w
+unfolding longestTail
+longest-kept m n r w v x l e = rw (e, getD-set-other w (FOUND + r) CUTS x 0 (λ z. omega arith))
 
 -- whatever text is loaded in w₀ and whatever the pattern is, the first r rules are counted in w
 abbrev pub Counted : ℕ → ℕ → ℕ → ℕ → List ℕ → List ℕ → Type 0

@@ -1,3 +1,4 @@
 pub mod Standing
+pub mod Short
 pub mod Counting
 pub mod Starting

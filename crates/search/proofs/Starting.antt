@@ -100,9 +100,9 @@ root-occurs o p text chair w h q =
     ap (occurrences (map (rankOf o) p)) (table-spelled o text chair (h .kept .stored))
     ∙ occurrences-marked o p text (q .filled) (q .bytes) (h .kept .stored .bytes)
 
-pub counted-text : (o : Order) (p text : List ℕ) (chair m n rules : ℕ) (w : List ℕ) → 0 < rules → rules ≡ ruleCount (tableOf o text chair)
-    → Counting o p text chair m n rules w → countIn w (rules - 1) ≡ length (occurrences p text)
-counted-text o p text chair m n rules w s e h =
+pub counted-text : (o : Order) (p text : List ℕ) (chair rules : ℕ) (w : List ℕ) → 0 < rules → rules ≡ ruleCount (tableOf o text chair)
+    → Searched o p text chair w → countIn w (rules - 1) ≡ length (occurrences p text)
+counted-text o p text chair rules w s e h =
     h .found (rules - 1) (omega arith) .number
     ∙ ap (λ (i : ℕ). length (occursIn o (tableOf o text chair) (map (rankOf o) p) (i - 1))) e
     ∙ ap length (root-occurs o p text chair w (h .loaded) (h .pattern))

@@ -63,10 +63,16 @@ pub record CountedBefore (m n r : ℕ) (w : List ℕ) : Type 0 where
   pub counting : Counting order samples text chair m n r w
   pub low : r < ruleCount (tableOf order text chair)
 
--- and rule r is read as a symbol
-pub record SymbolTurn (m r : ℕ) (w : List ℕ) : Type 0 where
+-- and the pattern is one sample
+pub record OneTurn (r : ℕ) (w : List ℕ) : Type 0 where
+  pub size : ℕ
   pub cuts : ℕ
-  pub turn : CountedBefore m cuts r w
+  pub turn : CountedBefore size cuts r w
+  pub short : size < 2
+
+-- and rule r is read as a symbol
+pub record SymbolTurn (r : ℕ) (w : List ℕ) : Type 0 where
+  pub one : OneTurn r w
   pub number : ℕ
   pub beside : ℕ
   pub rule : ruleIn w r ≡ Symbol number beside

@@ -3,16 +3,21 @@
 // An occurrence in a pair rule lies in one of its halves or straddles its join, and there at a listed cut. A rule's string stands
 // somewhere in the text, so a cut costs one comparison; at most n - m + 2 are made for m samples among n. Equal samples cost most.
 use decoding::Rule;
+use decoding::left_in;
+use decoding::right_in;
 use decoding::rule_in;
 use definitions::Order;
+use joins::areas::is_shorter;
 use joins::areas::length_of;
 use joins::areas::number_of;
 use joins::areas::place_of;
 use joins::cut_at_join;
+use joins::longest_tail;
 use layout::CUTS;
 use layout::FOUND;
 use layout::PACK;
 use layout::PATTERN;
+use slices::clear;
 use slices::put;
 ghost use mathlib.Core.Path.{_≡_};
 ghost use mathlib.Core.List.{List};
@@ -23,15 +28,21 @@ ghost use Rattle.definitions.specs.Table.{tableOf, ruleCount};
 ghost use Rattle.definitions.specs.Occurrences.{occurrences};
 ghost use Rattle.layout.specs.Layout.{PACK, WORK};
 ghost use Rattle.state.specs.State.{Loaded};
-ghost use Rattle.search.specs.Searching.{Counting, Searched, Starts, Counts, CountedBefore, SymbolTurn, FoundFor};
+ghost use Rattle.joins.specs.Joining.{longestTail};
+ghost use Rattle.search.specs.Searching.{Counting, Searched, Starts, Counts, CountedBefore, OneTurn, SymbolTurn, FoundFor};
 
-// Counts the occurrences of a pattern in the text that is loaded, whose table has so many rules.
+// Counts the occurrences of a pattern in the text that is loaded, whose table has so many rules. Where the root's string is shorter than the pattern, no rule has any.
 pub fn count(order: Order, pattern: &[u8], work: &mut [u32], rules: usize) -> usize
     requires { ⌜ Starts order rules (now work) × (0 < length (now pattern)) × (length (now pattern) ≤ 2047) ⌝ }
     ensures { λ n. ⌜ ((text : List ℕ) (chair : ℕ) → Loaded order text chair (now (work .entry)) → rules ≡ ruleCount (tableOf order text chair) → (n ≡ length (occurrences (now (pattern .entry)) text)) × Searched order (now (pattern .entry)) text chair (now (work .exit))) ⌝ }
 {
+    let m = pattern.len();
+    if is_shorter(work, rules - 1, m) {
+        clear(&mut work[FOUND..FOUND + rules]);
+        return 0;
+    }
     let n = place_pattern(order, pattern, work);
-    count_rules(work, pattern.len(), n, rules);
+    count_rules(work, m, n, rules);
     number_of(work, rules - 1)
 }
 
@@ -51,40 +62,52 @@ fn count_rules(work: &mut [u32], m: usize, n: usize, rules: usize)
     requires { ⌜ Counts m n rules 0 (now work) ⌝ }
     ensures { λ _. ⌜ ((o : Order) (p text : List ℕ) (chair : ℕ) → Counting o p text chair m n 0 (now (work .entry)) → rules ≡ ruleCount (tableOf o text chair) → Counting o p text chair m n rules (now (work .exit))) ⌝ }
 {
+    let longest = longest_tail(work, m, n);
     let mut r = 0;
     while r < rules {
-        let x = found_in(work, m, n, r);
+        let x = found_in(work, m, n, longest, r);
         put(work, FOUND + r, x);
         r += 1;
     }
 }
 
-// What is found in rule r: its occurrences times PACK and the cut at its join.
-fn found_in(work: &[u32], m: usize, n: usize, r: usize) -> u32
-    requires { ⌜ CountedBefore m n r (now work) ⌝ }
+// What is found in rule r: its occurrences times PACK and the cut at its join. A string shorter than the pattern has none; one of two symbols or more is a pair's.
+fn found_in(work: &[u32], m: usize, n: usize, longest: usize, r: usize) -> u32
+    requires { ⌜ CountedBefore m n r (now work) × (longest ≡ longestTail m n (now work)) ⌝ }
     ensures { λ x. ⌜ ((h : CountedBefore m n r (now (work .entry))) → FoundFor h x) ⌝ }
 {
-    let rule = rule_in(work, r);
-    let Rule::Pair(u, v) = rule else {
-        return found_in_symbol(work, m, r);
-    };
+    if m < 2 {
+        return found_of_one(work, r);
+    }
+    if is_shorter(work, r, m) {
+        return 0;
+    }
+    let u = left_in(work, r);
+    let v = right_in(work, r);
     let halves = number_of(work, u) + number_of(work, v);
     let left = length_of(work, u);
     let right = length_of(work, v);
-    found(
-        halves,
-        cut_at_join(work, m, n, place_of(work, r), left, right),
-    )
+    let at = place_of(work, r);
+    found(halves, cut_at_join(work, m, n, longest, at, left, right))
+}
+
+// The same of a pattern of one sample: it has no cut, and so straddles no join.
+fn found_of_one(work: &[u32], r: usize) -> u32
+    requires { ⌜ OneTurn r (now work) ⌝ }
+    ensures { λ x. ⌜ ((h : OneTurn r (now (work .entry))) → FoundFor (h .turn) x) ⌝ }
+{
+    let rule = rule_in(work, r);
+    let Rule::Pair(u, v) = rule else {
+        return found_in_symbol(work, r);
+    };
+    found(number_of(work, u) + number_of(work, v), 0)
 }
 
 // The same of a symbol rule: its rank stands where the rule does.
-fn found_in_symbol(work: &[u32], m: usize, r: usize) -> u32
-    requires { ⌜ SymbolTurn m r (now work) ⌝ }
-    ensures { λ x. ⌜ ((h : SymbolTurn m r (now (work .entry))) → FoundFor (h .turn) x) ⌝ }
+fn found_in_symbol(work: &[u32], r: usize) -> u32
+    requires { ⌜ SymbolTurn r (now work) ⌝ }
+    ensures { λ x. ⌜ ((h : SymbolTurn r (now (work .entry))) → FoundFor (h .one .turn) x) ⌝ }
 {
-    if m != 1 {
-        return 0;
-    }
     let a = work[place_of(work, r)];
     if a == work[PATTERN] {
         return PACK;

@@ -1,17 +1,53 @@
--- `count` places the pattern, counts every rule, and reads the root's number.
-use mathlib.Core.Path.{_∙_}
-use Prim.Native.Nat.{_≤_, _<_}
+-- `count` finds nothing where the root's string is shorter than the pattern; else it places the pattern, counts every rule, and reads the root's number.
+use mathlib.Core.Path.{sym, _∙_}
+use Prim.Native.Nat.{_+_, _-_, _≤_, _<_}
 use native.Mathlib.Omega.{arith}
+use lib.ListN.{length}
 use borrow.Author.Needs.{needs}
+use borrow.Author.Tests.{ltb-true}
 use Rattle.lyndon.specs.Stored.{rule-range}
-use Rattle.search.proofs.Starting.{counted-text, counted-all}
+use Rattle.layout.specs.Layout.{FOUND, lengthIn}
+use Rattle.search.proofs.Short.{short-text, short-all}
+use Rattle.search.proofs.Starting.{pattern-here, counted-text, counted-all}
 use Rattle.search.proofs.count.Statement.{statement}
 use Rattle.search.proofs.count.Tie as tie
+
+-- the number of rules
+range : (s : tie.Start) → (0 < s .args .rules) × (s .args .rules ≤ 2304)
+range s =
+    let h = s .pre .0 in
+    let (some, most) = rule-range (s .args .order) (h .text) (h .chair) (h .loaded .kept .stored) in
+    (omega (arith, h .size), omega (arith, h .size))
+
+is-shorter-requires : tie.Need-is-shorter-requires
+is-shorter-requires c κs =
+    let s = c .before .before .before in
+    (record { low = omega (arith, range s); long = omega (arith, s .pre .0 .loaded .kept .long) }, s .pre .2)
+
+returns : tie.Need-returns
+returns c text chair h e =
+    let l = c .before .before in
+    let i = l .before .before .before in
+    let k = i .before .before .before in
+    let s = k .before in
+    let a = s .args in
+    let w = a .work .now in
+    let p = a .pattern .now in
+    let q = pattern-here p (s .pre .1) (s .pre .2) (λ j b. omega (arith, k .shared-slice-known .given j)) in
+    let shorter = ltb-true (lengthIn w (a .rules - 1)) (length p) (sym (i .is-shorter .ensures) ∙ l .before .before .if1 .taken) in (
+      short-text (a .order) text chair w h p (a .rules) e shorter,
+      short-all (a .order) text chair w h p (l .clear .last .0) (FOUND + a .rules - FOUND) (a .rules) q e shorter (omega arith) (l .clear .ensures),
+    )
+
+place-pattern-requires : tie.Need-place-pattern-requires
+place-pattern-requires c κs =
+    let s = c .before .before .before .before .before .before in
+    (s .pre .1, s .pre .2, s .pre .0 .loaded .kept .long)
 
 count-rules-requires : tie.Need-count-rules-requires
 count-rules-requires c κs =
     let p = c .before .before .before in
-    let s = p .before .before .before .before in
+    let s = p .before .before .before .before .before .before .before in
     let h = s .pre .0 in
     record {
       order = s .args .order;
@@ -22,33 +58,30 @@ count-rules-requires c κs =
       size = h .size;
     }
 
--- the number of rules
-range : (s : tie.Start) → (0 < s .args .rules) × (s .args .rules ≤ 2304)
-range s =
-    let h = s .pre .0 in
-    let (some, most) = rule-range (s .args .order) (h .text) (h .chair) (h .loaded .kept .stored) in
-    (omega (arith, h .size), omega (arith, h .size))
+-- where the last call starts from
+abbrev number-start : tie.After-count-rules → tie.Start
+number-start c = c .before .before .before .before .before .before .before .before .before .before .before
 
 number-of-requires : tie.Need-number-of-requires
 number-of-requires c κs =
-    let s = c .before .before .before .before .before .before .before .before .before .before .before in
+    let s = number-start (c .before .before .before) in
     record { low = omega (arith, range s); long = omega (arith, s .pre .0 .loaded .kept .long) }
 
-returns : tie.Need-returns
-returns c text chair h e =
+returns-2 : tie.Need-returns-2
+returns-2 c text chair h e =
     let r = c .before .before .before .before in
     let p = r .before .before .before .before in
-    let s = p .before .before .before .before in
+    let s = number-start r in
     let a = s .args in
     let w = r .count-rules .last .0 in
-    let n = p .place-pattern .result in
-    let all = r .count-rules .ensures (a .order) (a .pattern .now) text chair (p .place-pattern .ensures text chair h) e in (
-      c .number-of .ensures ∙ counted-text (a .order) (a .pattern .now) text chair _ n (a .rules) w (range s .0) e all,
-      counted-all (a .order) (a .pattern .now) text chair _ n (a .rules) w e all,
-    )
+    let all = counted-all (a .order) (a .pattern .now) text chair _ (p .place-pattern .result) (a .rules) w e
+    (r .count-rules .ensures (a .order) (a .pattern .now) text chair (p .place-pattern .ensures text chair h) e) in
+    (c .number-of .ensures ∙ counted-text (a .order) (a .pattern .now) text chair (a .rules) w (range s .0) e all, all)
 
 pub count-spec : {M : Type 1} → statement M
 count-spec =
     tie.close
-    (tie.spec (λ c κs. let s = c .before .before .before in (s .pre .1, s .pre .2, s .pre .0 .loaded .kept .long)) count-rules-requires
-    (λ c. omega (arith, range (c .before .before .before .before .before .before .before .before .before .before .before))) number-of-requires (λ c. search needs) returns)
+    (tie.spec (λ c. omega (arith, range (c .before .before .before))) is-shorter-requires
+    (λ c. omega (arith, range (c .before .before .before .before .before))) (λ c. omega arith) (λ c. omega arith)
+    (λ c. let s = c .before .before .before .before .before in omega (arith, range s, s .pre .0 .loaded .kept .long)) (λ c κs. tt) (λ c. search needs) returns
+    place-pattern-requires count-rules-requires (λ c. omega (arith, range (number-start (c .before .before .before)))) number-of-requires (λ c. search needs) returns-2)

@@ -1,0 +1,134 @@
+-- A string that is shorter than the pattern: nothing is found in its rule (`short-found`); where the root's is, nothing is in any (`short-all`), since every rule's
+-- string stands in what the root spells. And a string of two symbols or more is a pair's (`long-pair`).
+use mathlib.Core.Path.{_≡_, refl, sym, _∙_, ap, subst}
+use mathlib.Core.Bool.{true}
+use mathlib.Core.List.{List, [], _∷_, _++_, map}
+use Prim.Native.Nat.{ℕ, _+_, _-_, _≤_, _<_}
+use native.Mathlib.Omega.{arith}
+use lib.ListN.{length, take, drop, getD, replicate, length-append, length-map, length-take, length-drop, length-replicate, getD-replicate}
+use lib.Seq.{length-take-le, drop-at}
+use Rattle.definitions.specs.declared.Order.{Order}
+use Rattle.definitions.specs.Table.{rankOf, tableOf, ruleString, spelled, isPair, leftHalf, rightHalf, ruleCount}
+use Rattle.definitions.specs.Occurrences.{occurrences, straddling}
+use Rattle.lists.specs.Bools.{contra}
+use Rattle.lists.specs.Parts.{part-at, part-front, lent-length, lent-before, lent-behind}
+use Rattle.lyndon.specs.Joins.{occurrences-join}
+use Rattle.lyndon.specs.Occurrences.{longer-nowhere}
+use Rattle.lyndon.specs.Ranks.{marked-length}
+use Rattle.lyndon.specs.Ruled.{PairOf}
+use Rattle.lyndon.specs.Stored.{rule-range, table-spelled}
+use Rattle.layout.specs.Layout.{TABLE, FOUND, lengthIn}
+use Rattle.decoding.specs.declared.Rule.the-variants.{Pair}
+use Rattle.decoding.specs.Decoding.{ruleIn, leftIn, rightIn}
+use Rattle.decoding.proofs.Rules.{pair-unless}
+use Rattle.state.specs.State.{Loaded}
+use Rattle.joins.proofs.Joining.{cut-place-none}
+use Rattle.search.specs.Found.{occursIn, acrossJoin, FoundIn}
+use Rattle.search.specs.Searching.{Pattern, Searched}
+use Rattle.search.proofs.Standing.{Outside, placed-outside, placed-symbol, pair-stands}
+
+no-members : (l : List ℕ) → length l ≡ 0 → l ≡ []
+no-members [] e = refl
+no-members (k ∷ l) e = absurd (omega arith)
+
+short-straddling : (p u v : List ℕ) → length u + length v < length p → straddling p u v ≡ []
+short-straddling p u v h =
+    let behind = map (λ (k : ℕ). length u + k) (occurrences p v) in
+    let none = sym (occurrences-join p u v (omega arith)) ∙ longer-nowhere p (u ++ v) (omega (arith, length-append u v)) in
+    no-members (straddling p u v) (omega (arith, ap length none, length-append (occurrences p u) (straddling p u v ++ behind), length-append (straddling p u v) behind))
+
+module _ (o : Order) (text : List ℕ) (chair : ℕ) (w : List ℕ) (h : Loaded o text chair w) where
+  abbrev t : List ℕ
+  t = tableOf o text chair
+
+  -- ---- one rule
+  module _ (r : ℕ) (low : r < ruleCount (tableOf o text chair)) where
+    small : r < 2304
+    small = omega (arith, rule-range o text chair (h .kept .stored))
+
+    pub long-pair : 2 ≤ lengthIn w r → ruleIn w r ≡ Pair (leftIn w r) (rightIn w r)
+    long-pair l = pair-unless w r small (λ a b s. omega (arith, h .sizes r low, ap length (placed-symbol o text chair w h r low a b s .string o)))
+
+    halves : isPair (tableOf o text chair) r ≡ true → PairOf (tableOf o text chair) r (leftIn w r) (rightIn w r)
+    halves q = pair-stands o text chair w h r low (leftIn w r) (rightIn w r) (pair-unless w r small (λ a b s. contra q (placed-symbol o text chair w h r low a b s .no-pair))) .pair
+
+    pub short-found : (p : List ℕ) → lengthIn w r < length p → FoundIn o (tableOf o text chair) p r 0
+    unfolding occursIn acrossJoin
+    short-found p l =
+        record {
+          number = sym (ap length (longer-nowhere p (ruleString o t r) (omega (arith, h .sizes r low))));
+          inside = λ q. omega arith;
+          cut = λ q.
+              let k = halves q in
+              short-straddling p (leftHalf o t r) (rightHalf o t r)
+              (omega (
+                arith,
+                h .sizes r low,
+                ap length (k .left-half o),
+                ap length (k .right-half o),
+                ap length (k .string o),
+                length-append (ruleString o t (leftIn w r)) (ruleString o t (rightIn w r)),
+              ))
+              ∙ sym (cut-place-none (length (leftHalf o t r)) 0 refl);
+          no-cut = λ q. refl;
+        }
+
+    -- no rule's string is longer than the root's
+    root-longest : lengthIn w r ≤ lengthIn w (ruleCount (tableOf o text chair) - 1)
+    unfolding spelled
+    root-longest =
+        let most = rule-range o text chair (h .kept .stored) in
+        omega (arith, h .sizes r low, h .sizes (ruleCount t - 1) (omega arith), h .places r low .inside, ap length (table-spelled o text chair (h .kept .stored)))
+
+  -- ---- the text, and all rules
+  pub short-text : (p : List ℕ) (rules : ℕ) → rules ≡ ruleCount (tableOf o text chair) → lengthIn w (rules - 1) < length p → 0 ≡ length (occurrences p text)
+  unfolding spelled
+  short-text p rules e l =
+      let most = rule-range o text chair (h .kept .stored) in
+      let root = ap (λ (i : ℕ). lengthIn w (i - 1)) e in
+      sym (ap length (longer-nowhere p text (omega (arith, root, h .sizes (ruleCount t - 1) (omega arith), ap length (table-spelled o text chair (h .kept .stored)), marked-length o text))))
+
+  -- n words from FOUND on are cleared
+  pub short-all : (p z : List ℕ) (n rules : ℕ) → Pattern p → rules ≡ ruleCount (tableOf o text chair) → lengthIn w (rules - 1) < length p → n ≡ rules
+      → z ≡ replicate (length (take n (drop FOUND w))) 0 → Searched o p text chair (take FOUND w ++ (z ++ drop n (drop FOUND w)))
+  short-all p z n rules q e l f g =
+      record {
+        loaded = placed-outside o text chair w v outside h;
+        pattern = q;
+        found = λ r low. subst (FoundIn o t P r) (sym (cleared r (omega arith))) (short-found r low P (omega (arith, size, root-longest r low, root)));
+      }
+    where
+      v : List ℕ
+      v = take FOUND w ++ (z ++ drop n (drop FOUND w))
+
+      P : List ℕ
+      P = map (rankOf o) p
+
+      size : length (map (rankOf o) p) ≡ length p
+      size = length-map p (rankOf o)
+
+      root : lengthIn w (rules - 1) ≡ lengthIn w (ruleCount (tableOf o text chair) - 1)
+      root = ap (λ (i : ℕ). lengthIn w (i - 1)) e
+
+      room : FOUND + n ≤ TABLE
+      room = omega (arith, rule-range o text chair (h .kept .stored))
+
+      lent : length (take n (drop FOUND w)) ≡ n
+      lent = simp (length-take, length-drop) (omega (arith, room, h .kept .long))
+
+      zeros : length z ≡ n
+      zeros = ap length g ∙ length-replicate {A = ℕ} (length (take n (drop FOUND w))) 0 ∙ lent
+
+      outside : Outside w (take FOUND w ++ (z ++ drop n (drop FOUND w)))
+      outside =
+          record {
+            size = lent-length w z FOUND n (omega (arith, room, h .kept .long)) zeros;
+            before = lent-before w z FOUND n (omega (arith, room, h .kept .long)) zeros FOUND (omega arith);
+            behind = lent-behind w z FOUND n (omega (arith, room, h .kept .long)) zeros TABLE room;
+          }
+
+      cleared : (r : ℕ) → r < n → getD (take FOUND w ++ (z ++ drop n (drop FOUND w))) (FOUND + r) 0 ≡ 0
+      cleared r k =
+          sym (part-at FOUND n v r 0 k)
+          ∙ ap (λ (x : List ℕ). getD x r 0) (part-front FOUND n v z (drop n (drop FOUND w)) (drop-at (take FOUND w) (z ++ drop n (drop FOUND w)) FOUND (length-take-le FOUND w (omega (arith, room, h .kept .long)))) zeros ∙ g)
+          ∙ getD-replicate (length (take n (drop FOUND w))) r 0 0 (omega (arith, lent))
