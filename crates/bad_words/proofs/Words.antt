@@ -22,13 +22,18 @@ use Rattle.layout.specs.Layout.{KIND, RIGHT_HALF}
 abbrev pub badOf : ℕ → ℕ → ℕ → ℕ
 badOf r x y = cond (badFirst r x) 1 (cond (badSecond r x y) 2 0)
 
-pub bad-most : (r x y b : ℕ) → b ≡ badOf r x y → b ≤ 2
-bad-most r x y b e = go (badFirst r x) (badSecond r x y) e
+-- one of three cases
+bad-cases : {C : Type 0} (r x y b : ℕ) → b ≡ badOf r x y → (badFirst r x ≡ true → b ≡ 1 → C) → (badFirst r x ≡ false → badSecond r x y ≡ true → b ≡ 2 → C)
+    → (badFirst r x ≡ false → badSecond r x y ≡ false → b ≡ 0 → C) → C
+bad-cases {C} r x y b e one two none = go (badFirst r x) (badSecond r x y) refl refl
   where
-    go : (p q : Bool) → b ≡ cond p 1 (cond q 2 0) → b ≤ 2
-    go true q f = omega arith
-    go false true f = omega arith
-    go false false f = omega arith
+    go : (p q : Bool) → badFirst r x ≡ p → badSecond r x y ≡ q → C
+    go true q i j = one i (e ∙ cond-true (badFirst r x) 1 (cond (badSecond r x y) 2 0) i)
+    go false true i j = two i j (e ∙ cond-false (badFirst r x) 1 (cond (badSecond r x y) 2 0) i ∙ cond-true (badSecond r x y) 2 0 j)
+    go false false i j = none i j (e ∙ cond-false (badFirst r x) 1 (cond (badSecond r x y) 2 0) i ∙ cond-false (badSecond r x y) 2 0 j)
+
+pub bad-most : (r x y b : ℕ) → b ≡ badOf r x y → b ≤ 2
+bad-most r x y b e = bad-cases r x y b e (λ i c. omega arith) (λ i j c. omega arith) (λ i j c. omega arith)
 
 turned : (b : Bool) → _≡_ {A = ℕ} (cond (not b) 2 0) (cond b 0 2)
 turned true = refl
@@ -140,25 +145,18 @@ module _ {t : List ℕ} {r : ℕ} (g : Good t r) where
     second-bad a b = refused-at t (2 * r + 1) (ruleCount t) (omega arith) (second-is t r ∙ b)
         (λ j l. split-lt j (2 * r) (λ k. g .words j k) (λ q. rw q (first-is t r ∙ a)) (λ k. absurd (omega arith)))
 
--- the two words of rule r, behind good ones
+-- the words of rule r, behind good ones, by what `badOf` says of them
 module _ {t : List ℕ} {r : ℕ} (g : Good t r) (b : ℕ) (e : b ≡ badOf r (getD t (2 * r) 0) (getD t (2 * r + 1) 0)) where
   pub bad-refused : r < ruleCount t → length t ≡ 2 * (ruleCount t) → (b ≡ 0 → ⊥) → Refused 6 (2 * r + b - 1) ≡ checked (hasBadWord t) (ruleCount t)
-  bad-refused h k z = go (badFirst r (getD t (2 * r) 0)) (badSecond r (getD t (2 * r) 0) (getD t (2 * r + 1) 0)) refl refl
-    where
-      go : (p q : Bool) → badFirst r (getD t (2 * r) 0) ≡ p → badSecond r (getD t (2 * r) 0) (getD t (2 * r + 1) 0) ≡ q → Refused 6 (2 * r + b - 1) ≡ checked (hasBadWord t) (ruleCount t)
-      go true q i j = ap (λ (n : ℕ). Refused 6 n) (omega (arith, e ∙ cond-true (badFirst r (getD t (2 * r) 0)) 1 _ i)) ∙ first-bad g h k i
-      go false true i j =
-          ap (λ (n : ℕ). Refused 6 n) (omega (arith, e ∙ cond-false (badFirst r (getD t (2 * r) 0)) 1 _ i ∙ cond-true (badSecond r (getD t (2 * r) 0) (getD t (2 * r + 1) 0)) 2 0 j))
-          ∙ second-bad g h k i j
-      go false false i j = absurd (z (e ∙ cond-false (badFirst r (getD t (2 * r) 0)) 1 _ i ∙ cond-false (badSecond r (getD t (2 * r) 0) (getD t (2 * r + 1) 0)) 2 0 j))
+  bad-refused h k z =
+      bad-cases r (getD t (2 * r) 0) (getD t (2 * r + 1) 0) b e
+      (λ i c. ap (λ (n : ℕ). Refused 6 n) (omega arith) ∙ first-bad g h k i)
+      (λ i j c. ap (λ (n : ℕ). Refused 6 n) (omega arith) ∙ second-bad g h k i j)
+      (λ i j c. absurd (z c))
 
   pub good-passed : b ≡ 0 → Good t (r + 1)
-  good-passed z = go (badFirst r (getD t (2 * r) 0)) (badSecond r (getD t (2 * r) 0) (getD t (2 * r + 1) 0)) refl refl
-    where
-      go : (p q : Bool) → badFirst r (getD t (2 * r) 0) ≡ p → badSecond r (getD t (2 * r) 0) (getD t (2 * r + 1) 0) ≡ q → Good t (r + 1)
-      go true q i j = absurd (omega (arith, e ∙ cond-true (badFirst r (getD t (2 * r) 0)) 1 _ i))
-      go false true i j = absurd (omega (arith, e ∙ cond-false (badFirst r (getD t (2 * r) 0)) 1 _ i ∙ cond-true (badSecond r (getD t (2 * r) 0) (getD t (2 * r + 1) 0)) 2 0 j))
-      go false false i j = good-more g i j
+  good-passed z =
+      bad-cases r (getD t (2 * r) 0) (getD t (2 * r + 1) 0) b e (λ i c. absurd (omega arith)) (λ i j c. absurd (omega arith)) (λ i j c. good-more g i j)
 
 pub all-good : {t : List ℕ} {r : ℕ} → Good t r → ruleCount t ≤ r → length t ≡ 2 * (ruleCount t) → Done (ruleCount t) ≡ checked (hasBadWord t) (ruleCount t)
 all-good {t} {r} g h e = simp (least-none (badWord t) (length t) (λ j l. g .words j (omega arith)), le-ltb (length t) (length t) (omega arith))

@@ -11,7 +11,7 @@ use Rattle.definitions.specs.declared.Order.{Order}
 use Rattle.definitions.specs.Table.{rankOf, tableOf, ruleString, spelled, isPair, leftHalf, rightHalf, ruleCount}
 use Rattle.definitions.specs.Occurrences.{occurrences, straddling}
 use Rattle.lists.specs.Bools.{contra}
-use Rattle.lists.specs.Parts.{part-at, part-front, lent-length, lent-before, lent-behind}
+use Rattle.lists.specs.Parts.{part-at, part-front}
 use Rattle.lyndon.specs.Joins.{occurrences-join}
 use Rattle.lyndon.specs.Occurrences.{longer-nowhere}
 use Rattle.lyndon.specs.Ranks.{marked-length}
@@ -25,7 +25,7 @@ use Rattle.state.specs.State.{Loaded}
 use Rattle.joins.proofs.Joining.{cut-place-none}
 use Rattle.search.specs.Found.{occursIn, acrossJoin, FoundIn}
 use Rattle.search.specs.Searching.{Pattern, Searched}
-use Rattle.search.proofs.Standing.{Outside, placed-outside, placed-symbol, pair-stands}
+use Rattle.search.proofs.Standing.{lent-outside, placed-outside, placed-symbol, pair-stands}
 
 no-members : (l : List ℕ) → length l ≡ 0 → l ≡ []
 no-members [] e = refl
@@ -93,7 +93,7 @@ module _ (o : Order) (text : List ℕ) (chair : ℕ) (w : List ℕ) (h : Loaded 
       → z ≡ replicate (length (take n (drop FOUND w))) 0 → Searched o p text chair (take FOUND w ++ (z ++ drop n (drop FOUND w)))
   short-all p z n rules q e l f g =
       record {
-        loaded = placed-outside o text chair w v outside h;
+        loaded = placed-outside o text chair w v (lent-outside w z FOUND n (omega arith) room (omega (arith, h .kept .long)) zeros) h;
         pattern = q;
         found = λ r low. subst (FoundIn o t P r) (sym (cleared r (omega arith))) (short-found r low P (omega (arith, size, root-longest r low, root)));
       }
@@ -118,14 +118,6 @@ module _ (o : Order) (text : List ℕ) (chair : ℕ) (w : List ℕ) (h : Loaded 
 
       zeros : length z ≡ n
       zeros = ap length g ∙ length-replicate {A = ℕ} (length (take n (drop FOUND w))) 0 ∙ lent
-
-      outside : Outside w (take FOUND w ++ (z ++ drop n (drop FOUND w)))
-      outside =
-          record {
-            size = lent-length w z FOUND n (omega (arith, room, h .kept .long)) zeros;
-            before = lent-before w z FOUND n (omega (arith, room, h .kept .long)) zeros FOUND (omega arith);
-            behind = lent-behind w z FOUND n (omega (arith, room, h .kept .long)) zeros TABLE room;
-          }
 
       cleared : (r : ℕ) → r < n → getD (take FOUND w ++ (z ++ drop n (drop FOUND w))) (FOUND + r) 0 ≡ 0
       cleared r k =

@@ -1,7 +1,7 @@
 -- What `Loaded` says of a rule: what it is read as (`placed-symbol`), where it and its halves stand (`rule-stands`, `pair-stands`), and
--- that stores between FOUND and TABLE change none of it (`placed-outside`).
+-- that stores between FOUND and TABLE change none of it (`placed-outside`, `lent-outside`).
 use mathlib.Core.Path.{_≡_, sym, _∙_, ap, ap₂, subst}
-use mathlib.Core.List.{List}
+use mathlib.Core.List.{List, _++_}
 use Prim.Native.Nat.{ℕ, suc, _+_, _≤_, _<_}
 use native.Mathlib.Omega.{arith}
 use native.Mathlib.Nat.{zero-add}
@@ -9,7 +9,7 @@ use lib.ListN.{length, take, drop, getD}
 use lib.Seq.{getD-take}
 use Rattle.definitions.specs.declared.Order.{Order}
 use Rattle.definitions.specs.Table.{marked, tableOf, ruleString, leftHalf, rightHalf, ruleCount}
-use Rattle.lists.specs.Parts.{part, part-part, part-agree}
+use Rattle.lists.specs.Parts.{part, part-part, part-agree, lent-length, lent-before, lent-behind}
 use Rattle.lyndon.specs.Factorization.{Std}
 use Rattle.lyndon.specs.Ranks.{marked-length}
 use Rattle.lyndon.specs.Stored.{rule-range, table-accepted}
@@ -77,6 +77,15 @@ pub record Outside (w v : List ℕ) : Type 0 where
   pub size : length v ≡ length w
   pub before : take FOUND v ≡ take FOUND w
   pub behind : drop TABLE v ≡ drop TABLE w
+
+-- so where n words from o on are lent, between the two
+pub lent-outside : (w z : List ℕ) (o n : ℕ) → FOUND ≤ o → o + n ≤ TABLE → TABLE ≤ length w → length z ≡ n → Outside w (take o w ++ (z ++ drop n (drop o w)))
+lent-outside w z o n low high long e =
+    record {
+      size = lent-length w z o n (omega arith) e;
+      before = lent-before w z o n (omega arith) e FOUND low;
+      behind = lent-behind w z o n (omega arith) e TABLE high;
+    }
 
 outside-at : (w v : List ℕ) → Outside w v → (i : ℕ) → i < FOUND → getD v i 0 ≡ getD w i 0
 outside-at w v e i l = sym (getD-take FOUND v i 0 l) ∙ ap (λ (x : List ℕ). getD x i 0) (e .before) ∙ getD-take FOUND w i 0 l

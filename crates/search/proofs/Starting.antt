@@ -10,7 +10,7 @@ use Rattle.definitions.specs.Words.{placed}
 use Rattle.definitions.specs.Table.{rankOf, tableOf, spelled, ruleCount}
 use Rattle.definitions.specs.Occurrences.{occurrences, patternCuts}
 use Rattle.lists.specs.Lists.{placed-length}
-use Rattle.lists.specs.Parts.{part, part-agree, lent-length, lent-before, lent-behind, lent-part}
+use Rattle.lists.specs.Parts.{part, part-agree, lent-before, lent-part}
 use Rattle.lyndon.specs.Joins.{triedCuts}
 use Rattle.lyndon.specs.Ranks.{slice-bytes}
 use Rattle.lyndon.specs.Stored.{table-spelled}
@@ -19,7 +19,7 @@ use Rattle.layout.specs.Layout.{TABLE, FOUND, PATTERN, CUTS, countIn}
 use Rattle.state.specs.State.{Loaded}
 use Rattle.search.specs.Found.{occursIn}
 use Rattle.search.specs.Searching.{Pattern, Counting, Searched}
-use Rattle.search.proofs.Standing.{Outside, placed-outside}
+use Rattle.search.proofs.Standing.{Outside, lent-outside, placed-outside}
 
 pub pattern-here : (p : List ℕ) → 0 < length p → length p ≤ 2047 → ((i : ℕ) → i < length p → getD p i 0 < 256) → Pattern p
 pattern-here p h k b = record { filled = h; short = k; bytes = slice-bytes p b }
@@ -34,13 +34,8 @@ module _ (w l z : List ℕ) (o n : ℕ) (low : FOUND ≤ o) (high : o + n ≤ TA
       let lent : length (take n (drop o w)) ≡ n = simp (length-take, length-drop) (omega arith) in
       ap length e ∙ placed-length l (take n (drop o w)) (omega arith) ∙ lent
 
-  lent-outside : Outside w (take o w ++ (z ++ drop n (drop o w)))
-  lent-outside =
-      record {
-        size = lent-length w z o n (omega arith) size;
-        before = lent-before w z o n (omega arith) size FOUND low;
-        behind = lent-behind w z o n (omega arith) size TABLE high;
-      }
+  written-outside : Outside w (take o w ++ (z ++ drop n (drop o w)))
+  written-outside = lent-outside w z o n low high long size
 
   lent-here : part o (length l) (take o w ++ (z ++ drop n (drop o w))) ≡ l
   lent-here = lent-part w z o n (omega arith) size l e
@@ -77,10 +72,10 @@ counting-start o p text chair w z v y m k n h q e f g c few most d =
     long = omega (arith, h .kept .long)
 
     ranks-outside : Outside w v
-    ranks-outside = subst (Outside w) (sym g) (lent-outside w (map (rankOf o) p) z PATTERN m (omega arith) (omega (arith, q .short)) long (omega (arith, ranks-size)) f)
+    ranks-outside = subst (Outside w) (sym g) (written-outside w (map (rankOf o) p) z PATTERN m (omega arith) (omega (arith, q .short)) long (omega (arith, ranks-size)) f)
 
     cuts-outside : Outside v (take CUTS v ++ (y ++ drop k (drop CUTS v)))
-    cuts-outside = lent-outside v (patternCuts o p) y CUTS k (omega arith) (omega arith) (omega (arith, ranks-outside .size)) few d
+    cuts-outside = written-outside v (patternCuts o p) y CUTS k (omega arith) (omega arith) (omega (arith, ranks-outside .size)) few d
 
     ranks : part PATTERN (length p) (take CUTS v ++ (y ++ drop k (drop CUTS v))) ≡ map (rankOf o) p
     ranks =
