@@ -69,11 +69,11 @@ fn is_marked(work: &[u32], n: usize) -> bool
     requires { ⌜ (0 < n) × (n ≤ length (now work)) ⌝ }
     ensures { λ b. ⌜ (b ≡ true → Front (now (work .entry)) n) × (b ≡ false → Front (now (work .entry)) n → ⊥) ⌝ }
 {
-    let mut alone = work[0] == 0;
+    let mut refuted = work[0] != 0;
     let mut i = 1;
     while i < n {
-        alone = alone & (0 < work[i]);
+        refuted = refuted | (work[i] == 0);
         i += 1;
     }
-    alone
+    !refuted
 }

@@ -9,7 +9,7 @@ use layout::RIGHT_HALF;
 use slices::wide;
 ghost use mathlib.Core.Path.{_≡_};
 ghost use mathlib.Core.Bool.{true, false};
-ghost use Prim.Native.Nat.{_+_, _<_};
+ghost use Prim.Native.Nat.{_<_};
 ghost use Rattle.definitions.specs.declared.Order.{Order};
 ghost use Rattle.definitions.specs.Table.{ruleCount, isTable};
 ghost use Rattle.lyndon.specs.Twins.{isNew};
@@ -53,15 +53,15 @@ fn is_new<'a>(table: &'a [u32], work: &'a [u32], r: usize) -> bool
     ensures { λ b. ⌜ (b ≡ true → isNew (now (table .entry)) r ≡ true) × (b ≡ false → (o : Order) → isTable o (now (table .entry)) ≡ false) ⌝ }
 {
     let x = table[2 * r];
-    if x == 0 {
-        return r == 0;
-    }
-    let y = table[2 * r + 1];
     if wide(x) + 1 == wide(LEFT_HALF) + r {
         return true;
     }
+    let y = table[2 * r + 1];
     if wide(y) + 1 == wide(RIGHT_HALF) + r {
         return true;
+    }
+    if x == 0 {
+        return r == 0;
     }
     find(table, work, x, y) == 0
 }

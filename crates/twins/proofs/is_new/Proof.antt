@@ -1,4 +1,4 @@
--- `is_new` answers for a mark by its place, for a pair with the rule before it at once, and else by what the dictionary finds.
+-- `is_new` answers for a pair with the rule before it at once, for a mark by its place, and else by what the dictionary finds.
 use mathlib.Core.Path.{_≡_, refl, sym, _∙_, subst}
 use mathlib.Core.Bool.{true}
 use Prim.Native.Nat.{ℕ, _+_, _*_}
@@ -15,24 +15,24 @@ use Rattle.twins.proofs.is_new.Tie as tie
 
 returns : tie.Need-returns
 returns c =
-    let s = c .before .before .before .before in
-    let t = s .args .table .now in
-    let r = s .args .r in (
-      λ e. subst (λ (i : ℕ). isNew t i ≡ true) (sym (eqb-true r 0 e)) (first-new t),
-      λ e. split-le r 0 (λ l. contra (eq-eqb r 0 (omega arith)) e) (λ l. second-mark (s .pre .0) (s .pre .1) l (c .if1 .taken)),
-    )
+    let a = c .before .before in
+    let s = a .before .before .before .before in
+    (λ e. left-before (s .pre .0) (s .pre .1) (omega (arith, c .if1 .taken, a .wide .ensures, c .before .wide2 .ensures)), λ e. contra refl e)
 
 returns-2 : tie.Need-returns-2
 returns-2 c =
     let a = c .before .before in
-    let s = a .before .before .before .before .before .before in
-    (λ e. left-before (s .pre .0) (s .pre .1) (omega (arith, c .if2 .taken, a .wide .ensures, c .before .wide2 .ensures)), λ e. contra refl e)
+    let s = a .before .before .before .before .before .before .before .before in
+    (λ e. right-before (s .pre .0) (s .pre .1) (omega (arith, c .if2 .taken, a .wide3 .ensures, c .before .wide4 .ensures)), λ e. contra refl e)
 
 returns-3 : tie.Need-returns-3
 returns-3 c =
-    let a = c .before .before in
-    let s = a .before .before .before .before .before .before .before .before .before in
-    (λ e. right-before (s .pre .0) (s .pre .1) (omega (arith, c .if3 .taken, a .wide3 .ensures, c .before .wide4 .ensures)), λ e. contra refl e)
+    let s = c .before .before .before .before .before .before .before .before .before .before .before in
+    let t = s .args .table .now in
+    let r = s .args .r in (
+      λ e. subst (λ (i : ℕ). isNew t i ≡ true) (sym (eqb-true r 0 e)) (first-new t),
+      λ e. split-le r 0 (λ l. contra (eq-eqb r 0 (omega arith)) e) (λ l. second-mark (s .pre .0) (s .pre .1) l (c .if3 .taken)),
+    )
 
 find-requires : tie.Need-find-requires
 find-requires c κs =
@@ -42,22 +42,22 @@ find-requires c κs =
 
 returns-4 : tie.Need-returns-4
 returns-4 c =
-    let x = c .before .before .before .before .before .before .before .before in
-    let s = x .before .before .before .before in
-    let same = looked-up (s .pre .0) (s .pre .1) (x .if1 .left) (c .find .result) (c .find .ensures (s .args .r) (s .pre .0 .dict)) in
+    let x = c .before in
+    let s = x .before .before .before .before .before .before .before .before .before .before .before in
+    let same = looked-up (s .pre .0) (s .pre .1) (x .if3 .left) (c .find .result) (c .find .ensures (s .args .r) (s .pre .0 .dict)) in
     (λ e. same ∙ e, λ e. not-new (s .pre .0) (s .pre .1) (same ∙ e))
 
 -- a word, and one more, fits
-add-if2 : tie.Need-add-if2
-add-if2 c = let s = c .before .before .before .before .before .before in omega (arith, c .wide .ensures, c .before .before .before .shared-slice-known3 .given (2 * s .args .r))
+add-if1 : tie.Need-add-if1
+add-if1 c = let s = c .before .before .before .before in omega (arith, c .wide .ensures, c .before .shared-slice-known3 .given (2 * s .args .r))
 
-add-if3 : tie.Need-add-if3
-add-if3 c =
-    let s = c .before .before .before .before .before .before .before .before .before in
-    omega (arith, c .wide3 .ensures, c .before .before .before .before .shared-slice-known4 .given (2 * s .args .r + 1))
+add-if2 : tie.Need-add-if2
+add-if2 c =
+    let s = c .before .before .before .before .before .before .before .before in
+    omega (arith, c .wide3 .ensures, c .before .shared-slice-known4 .given (2 * s .args .r + 1))
 
 pub is-new-spec : {M : Type 1} → statement M
 is-new-spec =
     tie.close
-    (tie.spec (λ c. search needs) (λ c. search needs) (λ c. search needs) returns (λ c. search needs) (λ c. search needs) (λ c. search needs) (λ c. search needs) (λ c κs. search needs)
-    add-if2 (λ c κs. search needs) (λ c. search needs) returns-2 (λ c κs. search needs) add-if3 (λ c κs. search needs) (λ c. search needs) returns-3 find-requires returns-4)
+    (tie.spec (λ c. search needs) (λ c. search needs) (λ c. search needs) (λ c κs. search needs) add-if1 (λ c κs. search needs) (λ c. search needs) returns
+    (λ c. search needs) (λ c. search needs) (λ c. search needs) (λ c. search needs) (λ c κs. search needs) add-if2 (λ c κs. search needs) (λ c. search needs) returns-2 returns-3 find-requires returns-4)
