@@ -48,6 +48,20 @@ pub fn byte_of(rank: u32) -> u8 {
 /// Number, place, count and chair, as the library answers them.
 pub type Answer = (u32, u64, u64, u32);
 
+/// What a search answers: that, and its number of tests.
+#[derive(Clone, Copy)]
+pub struct Found {
+    pub answer: Answer,
+    pub tests: u64,
+}
+
+/// An answer alone is that of a refusal, which has no tests, or of another service.
+impl From<Answer> for Found {
+    fn from(answer: Answer) -> Found {
+        Found { answer, tests: 0 }
+    }
+}
+
 pub fn done(count: usize, chair: u16) -> Answer {
     (0, 0, count as u64, chair as u32)
 }

@@ -2,8 +2,8 @@
 //! `check`, `read`, `copied` (reading, beside a Rust that copies the text), `extract` (the whole text), `count`, `locate`, `cuts` (the live cuts of
 //! the pattern that a search tries), `lyndon_length` (at the first position), `lyndon_array`, `to_signed` (of the former table), or `doubling`: the check of a table of SAMPLES
 //! rules that double. FAMILY 100 + m is a block of m random bytes, repeated. The pattern is the PATTERN samples in the middle of the text; with the KIND `nested`
-//! so many nested samples; and with a number k as KIND so many that are a^k, then b up to the last one, and a. It prints the answer and a checksum of each lent
-//! slice afterwards, which `bench/run` compares between the sides. The lent slices hold other values before the call.
+//! so many nested samples; with @i as KIND so many from position i on; and with a number k so many that are a^k, then b up to the last one, and a. It prints the answer, the number of tests, and a
+//! checksum of each lent slice afterwards, which `bench/run` compares between the sides. The lent slices hold other values before the call.
 
 mod baseline;
 #[path = "../tests/former.rs"]
@@ -17,7 +17,7 @@ mod search;
 mod tables;
 mod texts;
 
-use baseline::Answer;
+use baseline::Found;
 use former::former_table;
 use library::*;
 
@@ -44,7 +44,7 @@ fn lent() -> Lent {
 
 #[no_mangle]
 #[inline(never)]
-fn measured_library(given: &Given, lent: &mut Lent) -> Answer {
+fn measured_library(given: &Given, lent: &mut Lent) -> Found {
     let (text, n) = (given.text.as_ptr(), given.text.len());
     let (table, m) = (given.table.as_ptr(), given.table.len());
     let (pattern, p) = (given.pattern.as_ptr(), given.pattern.len());
@@ -68,31 +68,31 @@ fn measured_library(given: &Given, lent: &mut Lent) -> Answer {
     }
 }
 
-fn replied(r: Reply) -> Answer {
-    (r.number, r.place, r.count, r.chair)
+fn replied(r: Reply) -> Found {
+    (r.number, r.place, r.count, r.chair).into()
 }
 
-fn found(r: SearchReply) -> Answer {
-    (r.number, r.place, r.count, r.chair)
+fn found(r: SearchReply) -> Found {
+    Found { answer: (r.number, r.place, r.count, r.chair), tests: r.tests }
 }
 
 #[no_mangle]
 #[inline(never)]
-fn measured_rust(given: &Given, lent: &mut Lent) -> Answer {
+fn measured_rust(given: &Given, lent: &mut Lent) -> Found {
     let Given { service, text, table, pattern } = given;
     let Lent { work, words, bytes } = lent;
     match service.as_str() {
-        "build" => baseline::build(text, CHAIR, work, words),
-        "check" | "doubling" => tables::check(table, work),
-        "read" => tables::read(table, work, bytes),
-        "copied" => tables::copied(table, work, bytes),
-        "extract" => tables::extract(table, 0, text.len(), work, bytes),
+        "build" => baseline::build(text, CHAIR, work, words).into(),
+        "check" | "doubling" => tables::check(table, work).into(),
+        "read" => tables::read(table, work, bytes).into(),
+        "copied" => tables::copied(table, work, bytes).into(),
+        "extract" => tables::extract(table, 0, text.len(), work, bytes).into(),
         "count" => search::count(table, pattern, work),
         "locate" => search::locate(table, pattern, work, words),
-        "cuts" => search::live_cuts(pattern, words),
-        "lyndon_length" => tables::lyndon_length(table, 0, work),
-        "lyndon_array" => tables::lyndon_array(table, work, words),
-        "to_signed" => tables::to_signed(table, work, words),
+        "cuts" => search::live_cuts(pattern, words).into(),
+        "lyndon_length" => tables::lyndon_length(table, 0, work).into(),
+        "lyndon_array" => tables::lyndon_array(table, work, words).into(),
+        "to_signed" => tables::to_signed(table, work, words).into(),
         service => panic!("no service {service}"),
     }
 }
@@ -111,16 +111,19 @@ fn main() {
     let given = Given { service, text, table, pattern };
     let mut lent = lent();
     let measured = if args[1] == "library" { measured_library } else { measured_rust };
-    let answer = measured(&given, &mut lent);
+    let Found { answer, tests } = measured(&given, &mut lent);
     let (work, words, bytes) = (checksum(&lent.work), checksum(&lent.words), checksum(&lent.bytes));
-    println!("{} {} {answer:?} {work} {words} {bytes}", given.service, texts::FAMILIES.get(family).unwrap_or(&"a repeated block"));
+    println!("{} {} {answer:?} {tests} {work} {words} {bytes}", given.service, texts::FAMILIES.get(family).unwrap_or(&"a repeated block"));
 }
 
 fn pattern(text: &[u8], m: usize, kind: Option<&str>) -> Vec<u8> {
     match kind {
         None => texts::middle(text, m),
         Some("nested") => inputs::nested(*text.iter().min_by_key(|x| **x as i8).unwrap(), m),
-        Some(k) => differing(k.parse().unwrap(), m),
+        Some(kind) => match kind.strip_prefix('@') {
+            Some(i) => text[i.parse().unwrap()..][..m].to_vec(),
+            None => differing(kind.parse().unwrap(), m),
+        },
     }
 }
 

@@ -138,33 +138,43 @@ fn first_fitting(work: &[u32], m: usize, n: usize, longest: usize, right: usize)
     i
 }
 
-/// Whether the pattern, m samples, straddles a join at cut c, where both parts fit.
+/// Whether the pattern, m samples, straddles a join at cut c, where both parts fit. The sample before the cut is compared first.
 fn straddles(work: &[u32], m: usize, c: usize, join: usize) -> bool {
+    if at(work, join - 1) != at(work, PATTERN + c - 1) {
+        return false;
+    }
     let place = join - c;
     equal(part(work, place, place + m), part(work, PATTERN, PATTERN + m))
 }
 
-/// 4096 and the cut, among n that are listed, at which the pattern straddles the join of two strings, the first of which stands at a place; 0 if it does not.
-/// The cuts rise: behind one that is greater than the first string none fits.
-fn cut_at_join(work: &[u32], m: usize, n: usize, longest: usize, place: usize, left: usize, right: usize) -> u32 {
+/// What is found in a rule or at its join, and how many tests were made up to there.
+struct Tested {
+    found: u32,
+    tests: usize,
+}
+
+/// The tests at the join of two strings, the first of which stands at a place, behind those made before: found are 4096 and the cut, among n that are listed, at
+/// which the pattern straddles the join, 0 if it does not. The cuts rise: behind one that is greater than the first string none fits. Behind the last one
+/// stands a word that is greater than any.
+fn test_join(work: &[u32], m: usize, n: usize, longest: usize, place: usize, left: usize, right: usize, before: usize) -> Tested {
     let join = place + left;
     let mut i = first_fitting(work, m, n, longest, right);
-    while i < n {
-        let c = at(work, CUTS + i) as usize;
-        if left < c {
-            return 0;
+    let mut found = 0;
+    let mut tests = before;
+    while at(work, CUTS + i) as usize <= left {
+        let c = at(work, CUTS + i);
+        if straddles(work, m, c as usize, join) {
+            found = 4096 + c;
         }
-        if straddles(work, m, c, join) {
-            return 4096 + c as u32;
-        }
+        tests += 1;
         i += 1;
     }
-    0
+    Tested { found, tests }
 }
 
 /// The occurrences in both halves times 4096, and what is found at the join.
-fn found(both: usize, joined: u32) -> u32 {
-    both as u32 * 4096 + joined
+fn found(work: &[u32], u: usize, v: usize, joined: u32) -> u32 {
+    (at(work, FOUND + u) + at(work, FOUND + v)) / 4096 * 4096 + joined
 }
 
 /// What is found in rule r, of a pattern of one sample: it has no cut.
@@ -173,55 +183,65 @@ fn found_of_one(work: &[u32], r: usize) -> u32 {
         let found = at(work, word(work, PLACES, r)) == at(work, PATTERN);
         return if found { 4096 } else { 0 };
     };
-    found(word(work, FOUND, u) / 4096 + word(work, FOUND, v) / 4096, 0)
+    found(work, u, v, 0)
 }
 
 /// The occurrences in rule r times 4096 and the cut at its join. A string shorter than the pattern has none; one of two symbols or more is a pair's.
-fn found_in(work: &[u32], m: usize, n: usize, longest: usize, r: usize) -> u32 {
+fn found_in(work: &[u32], m: usize, n: usize, longest: usize, r: usize, tests: usize) -> Tested {
     if m < 2 {
-        return found_of_one(work, r);
+        return Tested { found: found_of_one(work, r), tests };
     }
     if at(work, LENGTHS + r) < m as u32 {
-        return 0;
+        return Tested { found: 0, tests };
     }
     let (u, v) = (half(work, 2 * r), half(work, 2 * r + 1));
     let (left, right) = (word(work, LENGTHS, u), word(work, LENGTHS, v));
-    let both = word(work, FOUND, u) / 4096 + word(work, FOUND, v) / 4096;
-    let cut = cut_at_join(work, m, n, longest, word(work, PLACES, r), left, right);
-    found(both, cut)
+    let joined = test_join(work, m, n, longest, word(work, PLACES, r), left, right, tests);
+    Tested { found: found(work, u, v, joined.found), tests: joined.tests }
 }
 
-fn count_rules(work: &mut [u32], m: usize, n: usize, rules: usize) {
+/// What is found in every rule, from the first up. Answers how many tests were made.
+fn count_rules(work: &mut [u32], m: usize, n: usize, rules: usize) -> usize {
     let longest = longest_tail(work, m, n);
-    let mut r = 0;
+    let (mut tests, mut r) = (0, 0);
     while r < rules {
-        let x = found_in(work, m, n, longest, r);
-        put(work, FOUND + r, x);
+        let x = found_in(work, m, n, longest, r, tests);
+        put(work, FOUND + r, x.found);
+        tests = x.tests;
         r += 1;
     }
+    tests
 }
 
-/// Counts the occurrences of a pattern in the text that is loaded; none, where the root's string is shorter.
-fn count_loaded(pattern: &[u8], work: &mut [u32], rules: usize) -> usize {
+/// Counts the occurrences of a pattern in the text that is loaded, and the tests; none, where the root's string is shorter.
+fn count_loaded(pattern: &[u8], work: &mut [u32], rules: usize) -> (usize, usize) {
     let m = pattern.len();
     if at(work, LENGTHS + rules - 1) < m as u32 {
         clear(work, FOUND, FOUND + rules);
-        return 0;
+        return (0, 0);
     }
     write_ranks(pattern, unsafe { work.get_unchecked_mut(PATTERN..PATTERN + m) });
     let k = floor_log2(m);
     let n = list(pattern, unsafe { work.get_unchecked_mut(CUTS..CUTS + k + 1) });
-    count_rules(work, m, n, rules);
-    word(work, FOUND, rules - 1) / 4096
+    put(work, CUTS + n, 4096);
+    let tests = count_rules(work, m, n, rules);
+    (word(work, FOUND, rules - 1) / 4096, tests)
+}
+
+fn searched(count: usize, tests: usize) -> Found {
+    Found { answer: done(count, 0), tests: tests as u64 }
 }
 
 /// The number of occurrences of a pattern in the text of a table.
 #[inline(never)]
-pub fn count(table: &[u32], pattern: &[u8], work: &mut [u32]) -> Answer {
+pub fn count(table: &[u32], pattern: &[u8], work: &mut [u32]) -> Found {
     if let Some(a) = pattern_refused(pattern) {
-        return a;
+        return a.into();
     }
-    with_loaded(Order::Signed, table, work, |work| done(count_loaded(pattern, work, table.len() / 2), 0))
+    with_loaded(Order::Signed, table, work, |work| {
+        let (n, tests) = count_loaded(pattern, work, table.len() / 2);
+        searched(n, tests)
+    })
 }
 
 /// Writes the occurrence at a place of the marked text as entry n. Answers where the next goes.
@@ -267,17 +287,17 @@ fn list_half(work: &[u32], r: usize, place: usize, result: &mut [u32], n: usize)
 
 /// The occurrences of a pattern in the text of a table.
 #[inline(never)]
-pub fn locate(table: &[u32], pattern: &[u8], work: &mut [u32], result: &mut [u32]) -> Answer {
+pub fn locate(table: &[u32], pattern: &[u8], work: &mut [u32], result: &mut [u32]) -> Found {
     if let Some(a) = pattern_refused(pattern) {
-        return a;
+        return a.into();
     }
     with_loaded(Order::Signed, table, work, |work| {
         let rules = table.len() / 2;
-        let n = count_loaded(pattern, work, rules);
+        let (n, tests) = count_loaded(pattern, work, rules);
         if result.len() < n {
-            return refused(9, n);
+            return refused(9, n).into();
         }
         list_rule(work, rules - 1, 0, result, 0);
-        done(n, 0)
+        searched(n, tests)
     })
 }

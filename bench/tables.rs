@@ -48,7 +48,13 @@ fn bad_word(table: &[u32]) -> usize {
 
 /// Whether of the n ranks at the front the first alone is the mark.
 fn is_marked(work: &[u32], n: usize) -> bool {
-    at(work, 0) == 0 && !part(work, 1, n).contains(&0)
+    let mut wrong = at(work, 0) != 0;
+    let mut i = 1;
+    while i < n {
+        wrong = wrong | (at(work, i) == 0);
+        i += 1;
+    }
+    !wrong
 }
 
 fn chair_of(table: &[u32]) -> u16 {
@@ -65,7 +71,7 @@ fn is_distinct(table: &[u32], work: &mut [u32]) -> bool {
     let mut r = 0;
     while r < rules {
         let (x, y) = (at(table, 2 * r), at(table, 2 * r + 1));
-        if !is_new(table, work, r, x, y) {
+        if !is_new(table, work, r) {
             return false;
         }
         let b = bucket(x, y);
@@ -77,12 +83,17 @@ fn is_distinct(table: &[u32], work: &mut [u32]) -> bool {
     true
 }
 
-fn is_new(table: &[u32], work: &[u32], r: usize, x: u32, y: u32) -> bool {
+fn is_new(table: &[u32], work: &[u32], r: usize) -> bool {
+    let x = at(table, 2 * r);
+    if x as usize + 1 == (1 << 30) + r {
+        return true;
+    }
+    let y = at(table, 2 * r + 1);
+    if y as usize + 1 == (2 << 30) + r {
+        return true;
+    }
     if x == 0 {
         return r == 0;
-    }
-    if x as usize + 1 == (1 << 30) + r || y as usize + 1 == (2 << 30) + r {
-        return true;
     }
     find(table, work, x, y) == 0
 }
@@ -235,19 +246,19 @@ fn load(order: Order, table: &[u32], work: &mut [u32]) -> bool {
 }
 
 /// Checks a table by an order of samples and loads it; what `deliver` answers then.
-pub fn with_loaded(order: Order, table: &[u32], work: &mut [u32], deliver: impl FnOnce(&mut [u32]) -> Answer) -> Answer {
+pub fn with_loaded<A: From<Answer>>(order: Order, table: &[u32], work: &mut [u32], deliver: impl FnOnce(&mut [u32]) -> A) -> A {
     if work.len() < WORK {
-        return refused(4, 0);
+        return refused(4, 0).into();
     }
     let m = table.len();
     if m == 0 || m % 2 == 1 || 4608 < m {
-        return refused(5, 0);
+        return refused(5, 0).into();
     }
     let i = bad_word(table);
     if i < m {
-        return refused(6, i);
+        return refused(6, i).into();
     }
-    let answer = if load(order, table, work) { deliver(work) } else { refused(7, 0) };
+    let answer = if load(order, table, work) { deliver(work) } else { refused(7, 0).into() };
     clear(work, 0, WORK);
     answer
 }

@@ -1,5 +1,5 @@
-//! Eight families of texts, one that is slow to list the cuts of, drives of a switch joystick, two whose middle has hundreds of live cuts, and repeated blocks
-//! of any length.
+//! Eight families of texts, one that is slow to list the cuts of, drives of a switch joystick, two whose middle has hundreds of live cuts, two with
+//! many tests behind a hit, and repeated blocks of any length.
 
 /// A small generator of numbers, the same in every run.
 struct Numbers(u64);
@@ -18,7 +18,7 @@ impl Numbers {
     }
 }
 
-pub const FAMILIES: [&str; 12] = [
+pub const FAMILIES: [&str; 14] = [
     "random bytes",
     "two symbols",
     "rests and ramps",
@@ -31,6 +31,8 @@ pub const FAMILIES: [&str; 12] = [
     "nine headings",
     "(ab)^j",
     "a^k b a^2k b^k",
+    "(w z^28)^j",
+    "(a^15 b)^j",
 ];
 
 /// A family BLOCKS + m has a block of m random bytes, repeated.
@@ -52,6 +54,13 @@ fn two_rests(n: usize) -> Vec<u8> {
     let mut s = run(n / 4);
     s.resize(s.len() + n / 4 * 2, b'a');
     s.resize(n, b'b');
+    s
+}
+
+/// Eleven nested samples w and a rest: z^18 w has four listed cuts that fit where it straddles a join, and behind that one the others differ late.
+fn nested_and_rest() -> Vec<u8> {
+    let mut s = b"aabaacaabaa".to_vec();
+    s.resize(s.len() + 28, b'z');
     s
 }
 
@@ -118,6 +127,8 @@ pub fn text(family: usize, n: usize) -> Vec<u8> {
         9 => headings(n, &mut numbers),
         10 => repeated(b"ab", n),
         11 => two_rests(n),
+        12 => repeated(&nested_and_rest(), n),
+        13 => repeated(&run(15), n),
         _ => repeated(&(BLOCKS..family).map(|_| numbers.sample()).collect::<Vec<u8>>(), n),
     }
 }

@@ -52,13 +52,18 @@ extern "C" {
  * The number of this interface. It goes up whenever a function's parameters or the fields of a reply change; the soname of the shared library ends with it. A program
  * that may meet another library than this header's compares the number with what sirbolta_interface answers, before any other call.
  */
-#define SIRBOLTA_INTERFACE 1
+#define SIRBOLTA_INTERFACE 2
 uint32_t sirbolta_interface(void);
 
 typedef struct { uint32_t number; uint32_t chair; uint64_t place; uint64_t count; } sirbolta_reply;
 
-/* What counting and locating reply with. */
-typedef struct { uint32_t number; uint32_t chair; uint64_t place; uint64_t count; } sirbolta_search_reply;
+/*
+ * What counting and locating reply with. Tests: how many tests the search makes. A test is a pair rule of the table, one with a left and a right half, together
+ * with a cut of the pattern that sirbolta_live_cuts lists, where the left half has at least as many symbols as the pattern has samples before the cut, and the
+ * right half at least as many as it has from the cut on. Symbols are the samples and the mark, which stands before them. A rule counts once, however often its
+ * string stands in the text. A pattern of one sample has no test; one of m samples in a text of n has at most n + 2 - m, none where that would be negative.
+ */
+typedef struct { uint32_t number; uint32_t chair; uint64_t place; uint64_t count; uint64_t tests; } sirbolta_search_reply;
 
 /* Writes the table of a text and a chair number. Count: the words written, two a rule. */
 sirbolta_reply sirbolta_build(const uint8_t *text, size_t text_len, uint16_t chair, uint32_t *work, size_t work_len, uint32_t *result, size_t result_len);
@@ -72,10 +77,13 @@ sirbolta_reply sirbolta_read(const uint32_t *table, size_t table_len, uint32_t *
 /* Writes the part of the text that begins at start and has length samples. Count: the samples written. */
 sirbolta_reply sirbolta_extract(const uint32_t *table, size_t table_len, size_t start, size_t length, uint32_t *work, size_t work_len, uint8_t *result, size_t result_len);
 
-/* Count: how often the pattern begins in the text, overlapping occurrences included. */
+/* Count: how often the pattern begins in the text, overlapping occurrences included. Tests: those of the search, 0 when it refuses. */
 sirbolta_search_reply sirbolta_count(const uint32_t *table, size_t table_len, const uint8_t *pattern, size_t pattern_len, uint32_t *work, size_t work_len);
 
-/* Writes the positions at which the pattern begins in the text, rising, each once. Count: the positions written. */
+/*
+ * Writes the positions at which the pattern begins in the text, rising, each once. Count: the positions written. Tests: those of the search, 0 when it
+ * refuses, by 9 too.
+ */
 sirbolta_search_reply sirbolta_locate(const uint32_t *table, size_t table_len, const uint8_t *pattern, size_t pattern_len, uint32_t *work, size_t work_len, uint32_t *result, size_t result_len);
 
 /*

@@ -32,6 +32,7 @@ AGREED = {}
 
 # each service that a table in the signed order is handed to, with arguments for the drive `abab`
 SERVICES = [("check",), ("read",), ("extract", 1, 2), ("count", b"ab"), ("locate", b"ab"), ("lyndon_length", 1), ("lyndon_array",)]
+SERVICES += [("count_with_tests", b"ab"), ("locate_with_tests", b"ab")]
 
 
 class Told(bytes):
@@ -103,7 +104,8 @@ def cases(file: str):
 
 
 def asked(case: dict, kind):
-    """What the module answers, as the count and the entries written, with the table handed over in one kind."""
+    """What the module answers, as its numbers and the entries written, with the table handed over in one kind. The numbers are the count and, where there is one,
+    the chair number or that of tests."""
     table = kind(entries(case.get("arg table", "0/"), 8))
     motif = bytes(entries(case.get("arg motif", "0/"), 2))
     match case["call"]:
@@ -119,10 +121,10 @@ def asked(case: dict, kind):
             text = sirbolta.extract(table, int(case["arg start"]), int(case["arg length"]))
             return len(text), list(text)
         case "count":
-            return sirbolta.count(table, motif), None
+            return sirbolta.count_with_tests(table, motif), None
         case "list":
-            places = sirbolta.locate(table, motif)
-            return len(places), places
+            places, tests = sirbolta.locate_with_tests(table, motif)
+            return (len(places), tests), places
         case "cuts":
             cuts = sirbolta.live_cuts(motif)
             return len(cuts), cuts
@@ -153,7 +155,8 @@ class Vectors(unittest.TestCase):
         if want["no"] == "0":
             count = int(want["count"])
             answer, written = asked(case, kind)
-            self.assertEqual(answer, (count, int(want["chair"])) if "chair" in want else count)
+            beside = [int(want[name]) for name in ("chair", "tests") if name in want]
+            self.assertEqual(answer, (count, *beside) if beside else count)
             if written is not None:
                 digits = 2 if case["call"] in ("read", "part") else 8
                 front = case["after result"].removeprefix("front ").removeprefix("-")
@@ -385,6 +388,20 @@ class Module(unittest.TestCase):
         unnamed = {name: value for name, value in os.environ.items() if name != "SIRBOLTA_LIBRARY"}
         with patch.object(sirbolta._native, "__file__", "/sirbolta-is-not-here/_native.py"), patch.dict(os.environ, unnamed, clear=True):
             self.assertRaisesRegex(ImportError, "^no libsirbolta.so", sirbolta._native.found)
+
+
+class Searches(unittest.TestCase):
+    """Counting and locating with the number of tests, and without: the same search."""
+
+    def test_tests(self):
+        few, equal, none = sirbolta.build(b"abab", 40), sirbolta.build(bytes(2047), 40), sirbolta.build(b"", 40)
+        for table, pattern, places, tests in [
+            (few, b"ab", [0, 2], 3), (few, b"a", [0, 2], 0), (few, b"ba", [1], 3), (few, b"abab", [0], 1), (few, b"babab", [], 1), (few, b"ababab", [], 0),
+            (equal, bytes(1), [*range(2047)], 0), (equal, bytes(2), [*range(2046)], 2047), (equal, bytes(1000), [*range(1048)], 1049), (none, b"ab", [], 0),
+        ]:
+            with self.subTest(pattern=pattern[:8], samples=len(pattern)):
+                self.assertEqual((table.count_with_tests(pattern), table.locate_with_tests(pattern)), ((len(places), tests), (places, tests)))
+                self.assertEqual((table.count(pattern), table.locate(pattern)), (len(places), places))
 
 
 class Tables(unittest.TestCase):

@@ -8,7 +8,7 @@ mod vector_file;
 
 use calls::*;
 use former::former_table;
-use sirbolta::{Reading, Refusal, CUTS, SAMPLES, TABLE, WORK};
+use sirbolta::{Reading, Refusal, Search, CUTS, SAMPLES, TABLE, WORK};
 use vector_file::{cases, Test};
 
 fn main() {
@@ -42,25 +42,39 @@ fn serve(call: &Call, lent: &Slices) -> (Outcome, Slices) {
         Call::Build { text, chair } => sirbolta::build(text, *chair, work, words),
         Call::Check { table } => sirbolta::check(table, work),
         Call::Extract { table, start, length } => sirbolta::extract(table, *start, *length, work, bytes),
-        Call::Count { table, pattern } => sirbolta::count(table, pattern, work),
-        Call::Locate { table, pattern } => sirbolta::locate(table, pattern, work, words),
         Call::Cuts { pattern } => sirbolta::live_cuts(pattern, words),
         Call::LyndonLength { table, position } => sirbolta::lyndon_length(table, *position, work),
         Call::LyndonArray { table } => sirbolta::lyndon_array(table, work, words),
         Call::ToSigned { table } => sirbolta::to_signed(table, work, words),
-        Call::Read { table } => return (outcome(sirbolta::read(table, work, bytes)), left),
+        Call::Read { table } => return (outcome(sirbolta::read(table, work, bytes), |read| (read.samples, read.chair, 0)), left),
+        Call::Count { table, pattern } => {
+            let count = sirbolta::count(table, pattern, &mut work.clone());
+            return (searched(sirbolta::count_with_tests(table, pattern, work), count), left);
+        }
+        Call::Locate { table, pattern } => {
+            let count = sirbolta::locate(table, pattern, &mut work.clone(), &mut words.clone());
+            return (searched(sirbolta::locate_with_tests(table, pattern, work, words), count), left);
+        }
     };
-    (outcome(answer.map(|samples| Reading { samples, chair: 0 })), left)
+    (outcome(answer, |count| (count, 0, 0)), left)
 }
 
-fn outcome(answer: Result<Reading, Refusal>) -> Outcome {
-    match answer {
-        Ok(reading) => Outcome { number: 0, place: 0, count: reading.samples as u64, chair: reading.chair as u32 },
-        Err(refusal) => Outcome { number: refusal.number(), place: refusal.place() as u64, count: 0, chair: 0 },
+/// The outcome of a search with its tests; the one without answers the same count or refusal.
+fn searched(answer: Result<Search, Refusal>, count: Result<usize, Refusal>) -> Outcome {
+    assert_eq!(answer.map(|search| search.count), count);
+    outcome(answer, |search| (search.count, 0, search.tests))
+}
+
+/// A refusal, or what `numbers` makes of an answer: its count, chair number and tests.
+fn outcome<T>(answer: Result<T, Refusal>, numbers: impl FnOnce(T) -> (usize, u16, usize)) -> Outcome {
+    match answer.map(numbers) {
+        Ok((count, chair, tests)) => Outcome { number: 0, place: 0, count: count as u64, chair: chair as u32, tests: tests as u64 },
+        Err(refusal) => Outcome { number: refusal.number(), place: refusal.place() as u64, count: 0, chair: 0, tests: 0 },
     }
 }
 
-/// The largest table, also converted, the most positions, the most cuts, and the most and longest Lyndon words, in slices of the lengths that the module names.
+/// The largest table, also converted, the most positions, the most tests, the most cuts, and the most and longest Lyndon words, in slices of the lengths that the
+/// module names.
 fn largest() {
     let mut work = vec![7; WORK];
     let mut result = vec![7; TABLE];
@@ -82,6 +96,8 @@ fn largest() {
     let words = sirbolta::build(&[0; 2047], 0, &mut work, &mut result).unwrap();
     assert_eq!(sirbolta::locate(&result[..words], &[0], &mut work, &mut entries), Ok(2047));
     assert!(entries.iter().copied().eq(0..2047));
+    assert_eq!(sirbolta::count_with_tests(&result[..words], &[0; 2], &mut work), Ok(Search { count: 2046, tests: 2047 }));
+    assert_eq!(sirbolta::locate_with_tests(&result[..words], &[0; 2], &mut work, &mut entries), Ok(Search { count: 2046, tests: 2047 }));
     let word = b"bcdefghij".iter().fold(b"aa".to_vec(), |word, &sample| [&word[..], &[sample], &word[..]].concat());
     let pattern = [b"z", &word[..]].concat();
     let mut cuts = [7; CUTS];

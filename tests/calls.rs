@@ -23,13 +23,14 @@ pub struct Slices {
     pub bytes: Vec<u8>,
 }
 
-/// What a service answers: a refusal's number and place, or number 0 with count and chair number.
+/// What a service answers: a refusal's number and place, or number 0 with count, chair number and tests.
 #[derive(Clone, Copy, Debug, PartialEq)]
 pub struct Outcome {
     pub number: u32,
     pub place: u64,
     pub count: u64,
     pub chair: u32,
+    pub tests: u64,
 }
 
 pub const SERVICES: [&str; 10] = ["build", "check", "read", "extract", "count", "locate", "cuts", "lyndon length", "lyndon array", "to signed"];

@@ -1,4 +1,4 @@
-//! Compares the library with the naive implementation on generated inputs: number, place, count, chair number, and all of every lent slice. The first
+//! Compares the library with the naive implementation on generated inputs: number, place, count, chair number, tests, and all of every lent slice. The first
 //! disagreement is printed and ends the run.
 
 mod calls;
@@ -245,7 +245,7 @@ impl Comparison {
         let got = lending::serve(call, lent, null);
         let want = self.naive.answer(call, lent);
         let wrong = match &got {
-            Ok(got) => difference(got, &want).or_else(|| broken_bound(call, got)),
+            Ok(got) => difference(got, &want).or_else(|| broken_bound(call, got)).or_else(|| self.too_many_tests(call, got.0)),
             Err(wrong) => Some(wrong.clone()),
         };
         if let Some(wrong) = wrong {
@@ -255,6 +255,16 @@ impl Comparison {
         }
         self.tally.add(call, &want.0);
         want
+    }
+
+    /// Which bound a search breaks: for m samples among n it makes more than n + 2 - m tests, none where that would be negative.
+    fn too_many_tests(&mut self, call: &Call, outcome: Outcome) -> Option<String> {
+        let (Call::Count { pattern, .. } | Call::Locate { pattern, .. }) = call else { return None };
+        if outcome.number != 0 {
+            return None;
+        }
+        let most = (self.naive.samples(call) + 2).saturating_sub(pattern.len());
+        (outcome.tests > most as u64).then(|| format!("{} tests, where {most} are the most", outcome.tests))
     }
 }
 

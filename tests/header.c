@@ -8,10 +8,11 @@ _Static_assert(sizeof(sirbolta_reply) == 24, "reply");
 _Static_assert(offsetof(sirbolta_reply, chair) == 4, "chair");
 _Static_assert(offsetof(sirbolta_reply, place) == 8, "place");
 _Static_assert(offsetof(sirbolta_reply, count) == 16, "count");
-_Static_assert(sizeof(sirbolta_search_reply) == 24, "search reply");
+_Static_assert(sizeof(sirbolta_search_reply) == 32, "search reply");
 _Static_assert(offsetof(sirbolta_search_reply, chair) == 4, "chair");
 _Static_assert(offsetof(sirbolta_search_reply, place) == 8, "place");
 _Static_assert(offsetof(sirbolta_search_reply, count) == 16, "count");
+_Static_assert(offsetof(sirbolta_search_reply, tests) == 24, "tests");
 
 enum { WORK = 16384, WORDS = 12 };
 
@@ -37,8 +38,8 @@ static int is(sirbolta_reply r, uint32_t number, uint64_t place, uint64_t count,
     return r.number == number && r.place == place && r.count == count && r.chair == chair;
 }
 
-static int found(sirbolta_search_reply r, uint32_t number, uint64_t place, uint64_t count) {
-    return r.number == number && r.place == place && r.count == count && r.chair == 0;
+static int found(sirbolta_search_reply r, uint32_t number, uint64_t place, uint64_t count, uint64_t tests) {
+    return r.number == number && r.place == place && r.count == count && r.chair == 0 && r.tests == tests;
 }
 
 int main(void) {
@@ -48,8 +49,11 @@ int main(void) {
     want("check", is(sirbolta_check(abab, WORDS, work, WORK), 0, 0, 6, 0));
     want("read", is(sirbolta_read(abab, WORDS, work, WORK, samples, 4), 0, 0, 4, 40) && memcmp(samples, text, 4) == 0);
     want("extract", is(sirbolta_extract(abab, WORDS, 1, 2, work, WORK, samples, 4), 0, 0, 2, 0) && samples[0] == 98 && samples[1] == 97);
-    want("count", found(sirbolta_count(abab, WORDS, text, 2, work, WORK), 0, 0, 2));
-    want("locate", found(sirbolta_locate(abab, WORDS, text, 2, work, WORK, words, 2), 0, 0, 2) && words[0] == 0 && words[1] == 2);
+    want("count", found(sirbolta_count(abab, WORDS, text, 2, work, WORK), 0, 0, 2, 3));
+    want("count of one sample", found(sirbolta_count(abab, WORDS, text, 1, work, WORK), 0, 0, 2, 0));
+    want("count of no sample", found(sirbolta_count(abab, WORDS, text, 0, work, WORK), 2, 0, 0, 0));
+    want("locate", found(sirbolta_locate(abab, WORDS, text, 2, work, WORK, words, 2), 0, 0, 2, 3) && words[0] == 0 && words[1] == 2);
+    want("locate, result too short", found(sirbolta_locate(abab, WORDS, text, 2, work, WORK, words, 1), 9, 2, 0, 0));
     want("live_cuts", is(sirbolta_live_cuts(text, 4, words, 1), 0, 0, 1, 0) && words[0] == 2);
     want("live_cuts of equal samples", is(sirbolta_live_cuts(equal, 4, words, 2), 0, 0, 2, 0) && words[0] == 1 && words[1] == 3);
     want("lyndon_length", is(sirbolta_lyndon_length(abab, WORDS, 2, work, WORK), 0, 0, 2, 0));
@@ -57,6 +61,6 @@ int main(void) {
     want("to_signed", is(sirbolta_to_signed(former, 10, work, WORK, words, 10), 0, 0, 10, 0) && memcmp(words, rising, sizeof rising) == 0);
     want("to_signed of the signed table", is(sirbolta_to_signed(rising, 10, work, WORK, words, 10), 7, 0, 0, 0));
     want("a null table", is(sirbolta_check(NULL, 0, work, WORK), 5, 0, 0, 0));
-    if (!wrong) printf("header: 14 calls from C are right\n");
+    if (!wrong) printf("header: 17 calls from C are right\n");
     return wrong;
 }

@@ -51,11 +51,11 @@ fn inputs(call: &Call) -> (&[u8], &[u32]) {
 }
 
 fn replied(r: Reply) -> Outcome {
-    Outcome { number: r.number, place: r.place, count: r.count, chair: r.chair }
+    Outcome { number: r.number, place: r.place, count: r.count, chair: r.chair, tests: 0 }
 }
 
 fn found(r: SearchReply) -> Outcome {
-    Outcome { number: r.number, place: r.place, count: r.count, chair: r.chair }
+    Outcome { number: r.number, place: r.place, count: r.count, chair: r.chair, tests: r.tests }
 }
 
 struct Guarded<T> {

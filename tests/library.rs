@@ -16,6 +16,7 @@ pub struct SearchReply {
     pub chair: u32,
     pub place: u64,
     pub count: u64,
+    pub tests: u64,
 }
 
 extern "C" {

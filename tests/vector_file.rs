@@ -52,7 +52,7 @@ fn items<'a>(lines: &[&'a str]) -> Result<Items<'a>, String> {
 }
 
 fn test(mut items: Items) -> Result<Test, String> {
-    if take(&mut items, "stage")? != "3" {
+    if take(&mut items, "stage")? != "4" {
         return Err("an unknown stage".into());
     }
     let test = match take(&mut items, "call")? {
@@ -64,7 +64,7 @@ fn test(mut items: Items) -> Result<Test, String> {
         service => {
             let call = call(service, &mut items)?;
             let lent = lent(&call, &mut items)?;
-            let want = (outcome(take(&mut items, "want")?)?, left(&call, &lent, &mut items)?);
+            let want = (outcome(&call, take(&mut items, "want")?)?, left(&call, &lent, &mut items)?);
             Test::Service { call, lent, want }
         }
     };
@@ -152,13 +152,17 @@ fn place<T: Copy>(front: &[T], slice: &mut [T]) -> Result<(), String> {
     Ok(())
 }
 
-fn outcome(want: &str) -> Result<Outcome, String> {
-    let (number, place, count, chair) = match want.split(' ').collect::<Vec<_>>()[..] {
-        ["no", number, "place", place, "count", count] => (number, place, count, "0"),
-        ["no", number, "place", place, "count", count, "chair", chair] => (number, place, count, chair),
+/// A search has its number of tests, and no other call has.
+fn outcome(call: &Call, want: &str) -> Result<Outcome, String> {
+    let searches = matches!(call, Call::Count { .. } | Call::Locate { .. });
+    let (number, place, count, chair, tests) = match want.split(' ').collect::<Vec<_>>()[..] {
+        ["no", number, "place", place, "count", count, "tests", tests] if searches => (number, place, count, "0", tests),
+        ["no", number, "place", place, "count", count] if !searches => (number, place, count, "0", "0"),
+        ["no", number, "place", place, "count", count, "chair", chair] if !searches => (number, place, count, chair, "0"),
         _ => return Err(format!("want {want}")),
     };
-    Ok(Outcome { number: number_of(number)?, place: number_of(place)?, count: number_of(count)?, chair: number_of(chair)? })
+    let (chair, tests) = (number_of(chair)?, number_of(tests)?);
+    Ok(Outcome { number: number_of(number)?, place: number_of(place)?, count: number_of(count)?, chair, tests })
 }
 
 fn take<'a>(items: &mut Items<'a>, name: &str) -> Result<&'a str, String> {

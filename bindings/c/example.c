@@ -23,7 +23,7 @@ int main(void) {
     sirbolta_search_reply found = sirbolta_locate(table, words, abab, 2, work, WORK, positions, SAMPLES);
     printf("ab begins at");
     for (uint64_t i = 0; i < found.count; i++) printf("%s%" PRIu32, i ? ", " : " [", positions[i]);
-    printf("]\n");
+    printf("]\n%" PRIu64 " tests\n", found.tests);
 
     sirbolta_reply refused = sirbolta_extract(table, words, 4, 1, work, WORK, drive, SAMPLES);
     if (refused.number == 8) printf("refused 8: the range or position reaches past the end of the text\n");

@@ -8,7 +8,9 @@ print(table.check(), "rules")
 drive, chair = table.read()
 print(f"chair {chair}, {len(drive)} samples")
 
-print("ab begins at", table.locate(b"ab"))
+positions, tests = table.locate_with_tests(b"ab")
+print("ab begins at", positions)
+print(tests, "tests")
 
 try:
     table.extract(start=4, length=1)

@@ -16,8 +16,9 @@ fn main() -> Result<(), Refusal> {
     println!("chair {}, {} samples", reading.chair, reading.samples);
 
     let mut positions = vec![0; SAMPLES];
-    let found = sirbolta::locate(table, b"ab", &mut work, &mut positions)?;
-    println!("ab begins at {:?}", &positions[..found]);
+    let found = sirbolta::locate_with_tests(table, b"ab", &mut work, &mut positions)?;
+    println!("ab begins at {:?}", &positions[..found.count]);
+    println!("{} tests", found.tests);
 
     if let Err(refusal) = sirbolta::extract(table, 4, 1, &mut work, &mut drive) {
         println!("{refusal}");

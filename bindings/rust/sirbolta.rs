@@ -1,6 +1,7 @@
 //! The services of the proved library, for safe Rust: slices in, and a count or the refusal by its name out. It wants the static library that
 //! `bindings/build` makes: `rustc -L target/staticlib -l static=capi`; the package's crate links it by itself. Every call is sound, since Rust's slices
-//! are what the library asks for: valid, aligned, and where they are lent for writing, apart from all others.
+//! are what the library asks for: valid, aligned, and where they are lent for writing, apart from all others. A search that is also to say how many tests it made
+//! is `count_with_tests` or `locate_with_tests`.
 //!
 //! The work slice needs `WORK` words, the result slice as many entries as the result has; what they held before plays no part. On success the result
 //! stands at the front of the result slice and the rest is as it was; after a refusal all of it is as it was. The work slice is as it was after the
@@ -17,7 +18,7 @@
 use std::fmt;
 
 /// The number of the interface that this module is made for.
-pub const INTERFACE: u32 = 1;
+pub const INTERFACE: u32 = 2;
 
 /// The words that a work slice needs.
 pub const WORK: usize = 16_384;
@@ -59,6 +60,18 @@ pub struct Reading {
     pub chair: u16,
 }
 
+/// A search that is done: how many occurrences it counted or positions it wrote, and how many tests it made.
+///
+/// A test is a pair rule of the table, one with a left and a right half, together with a cut of the pattern that `live_cuts` lists, where the left half has at
+/// least as many symbols as the pattern has samples before the cut, and the right half at least as many as it has from the cut on. Symbols are the samples and
+/// the mark, which stands before them. A rule counts once, however often its string stands in the text. A pattern of one sample has no test; one of m samples in a
+/// text of n has at most n + 2 - m, none where that would be negative.
+#[derive(Clone, Copy, Debug, PartialEq, Eq)]
+pub struct Search {
+    pub count: usize,
+    pub tests: usize,
+}
+
 /// Writes the table of a text and a chair number, and answers how many words it has.
 pub fn build(text: &[u8], chair: u16, work: &mut [u32], result: &mut [u32]) -> Result<usize, Refusal> {
     let (w, n, r, m) = (work.as_mut_ptr(), work.len(), result.as_mut_ptr(), result.len());
@@ -86,14 +99,24 @@ pub fn extract(table: &[u32], start: usize, length: usize, work: &mut [u32], res
 
 /// How often the pattern begins in the text, overlapping occurrences included.
 pub fn count(table: &[u32], pattern: &[u8], work: &mut [u32]) -> Result<usize, Refusal> {
+    count_with_tests(table, pattern, work).map(|search| search.count)
+}
+
+/// The same, and how many tests the search made.
+pub fn count_with_tests(table: &[u32], pattern: &[u8], work: &mut [u32]) -> Result<Search, Refusal> {
     let (p, k, w, n) = (pattern.as_ptr(), pattern.len(), work.as_mut_ptr(), work.len());
-    found(unsafe { sirbolta_count(table.as_ptr(), table.len(), p, k, w, n) })
+    searched(unsafe { sirbolta_count(table.as_ptr(), table.len(), p, k, w, n) })
 }
 
 /// Writes the positions at which the pattern begins in the text, rising, and answers how many there are.
 pub fn locate(table: &[u32], pattern: &[u8], work: &mut [u32], result: &mut [u32]) -> Result<usize, Refusal> {
+    locate_with_tests(table, pattern, work, result).map(|search| search.count)
+}
+
+/// The same, and how many tests the search made.
+pub fn locate_with_tests(table: &[u32], pattern: &[u8], work: &mut [u32], result: &mut [u32]) -> Result<Search, Refusal> {
     let (p, k, w, n) = (pattern.as_ptr(), pattern.len(), work.as_mut_ptr(), work.len());
-    found(unsafe { sirbolta_locate(table.as_ptr(), table.len(), p, k, w, n, result.as_mut_ptr(), result.len()) })
+    searched(unsafe { sirbolta_locate(table.as_ptr(), table.len(), p, k, w, n, result.as_mut_ptr(), result.len()) })
 }
 
 /// Writes the live cuts of the pattern that a search tries, rising, at most `CUTS`, and answers how many there are.
@@ -191,9 +214,9 @@ fn counted(reply: Reply) -> Result<usize, Refusal> {
     }
 }
 
-fn found(reply: SearchReply) -> Result<usize, Refusal> {
+fn searched(reply: SearchReply) -> Result<Search, Refusal> {
     match reply.number {
-        0 => Ok(reply.count as usize),
+        0 => Ok(Search { count: reply.count as usize, tests: reply.tests as usize }),
         number => Err(Refusal::named(number, reply.place as usize)),
     }
 }
@@ -225,6 +248,7 @@ struct SearchReply {
     chair: u32,
     place: u64,
     count: u64,
+    tests: u64,
 }
 
 #[rustfmt::skip]

@@ -1,7 +1,7 @@
 //! What each service answers and leaves in the slices: of the refusals that concern it, the lowest number that is met.
 
 use super::order::Order;
-use super::tables::{bad_word, drive_of, table_of};
+use super::tables::{bad_word, drive_of, halves, table_of};
 use super::words::{listed_cuts, lyndon_array, occurrences};
 use crate::calls::*;
 
@@ -13,12 +13,37 @@ enum Verdict {
     Drive(Vec<u8>, u16),
 }
 
-/// The answers, with the last table judged, the last one built and the last drive's Lyndon array kept, so that many calls on one table judge it once.
+/// The answers, with the last table judged, the last one built, the last drive's Lyndon array and the last pattern's cuts kept, so that many calls on one table
+/// judge it once.
 #[derive(Default)]
 pub struct Naive {
-    judged: Option<(Order, Vec<u32>, Verdict)>,
-    built: Option<(Vec<u8>, u16, Vec<u32>)>,
-    lengths: Option<(Vec<u8>, Vec<usize>)>,
+    judged: Kept<(Order, Vec<u32>), Verdict>,
+    built: Kept<(Vec<u8>, u16), Vec<u32>>,
+    lengths: Kept<Vec<u8>, Vec<usize>>,
+    cuts: Kept<Vec<u8>, Vec<usize>>,
+}
+
+/// What was made last, and from what.
+struct Kept<K, V>(Option<(K, V)>);
+
+impl<K, V> Default for Kept<K, V> {
+    fn default() -> Self {
+        Kept(None)
+    }
+}
+
+impl<K: PartialEq, V: Clone> Kept<K, V> {
+    /// What is made from these inputs, made again only if they are others than last.
+    fn of(&mut self, inputs: K, make: impl FnOnce(&K) -> V) -> V {
+        match &self.0 {
+            Some((last, made)) if *last == inputs => made.clone(),
+            _ => {
+                let made = make(&inputs);
+                self.0 = Some((inputs, made.clone()));
+                made
+            }
+        }
+    }
 }
 
 /// What a service writes.
@@ -77,8 +102,8 @@ impl Naive {
         met.then_some(0)
     }
 
-    /// Success gives the number of entries written; checking gives the rules, counting the finds, a Lyndon length itself, and reading back adds the chair
-    /// number.
+    /// Success gives the number of entries written; checking gives the rules, counting the finds, a Lyndon length itself; reading back adds the chair
+    /// number, a search its tests.
     fn success(&mut self, call: &Call, entries: usize) -> Outcome {
         let (count, chair) = match call {
             Call::Check { table } => (table.len() / 2, 0),
@@ -87,7 +112,21 @@ impl Naive {
             Call::Read { .. } => (entries, self.chair(call)),
             _ => (entries, 0),
         };
-        Outcome { number: 0, place: 0, count: count as u64, chair: chair as u32 }
+        Outcome { number: 0, place: 0, count: count as u64, chair: chair as u32, tests: self.tests(call) as u64 }
+    }
+
+    /// How many pairs there are of a pair rule and a listed cut, where the left half has at least as many symbols as the pattern has before the cut, and the right
+    /// half at least as many as it has from the cut on.
+    fn tests(&mut self, call: &Call) -> usize {
+        let (Call::Count { table, pattern } | Call::Locate { table, pattern }) = call else { return 0 };
+        let cuts = self.listed_cuts(pattern);
+        let fits = |(left, right): (usize, usize)| cuts.iter().filter(|&&cut| left >= cut && right >= pattern.len() - cut).count();
+        halves(table).into_iter().map(fits).sum()
+    }
+
+    /// How many samples the drive has in which a search is done.
+    pub fn samples(&mut self, call: &Call) -> usize {
+        self.drive(call).len()
     }
 
     fn written(&mut self, call: &Call) -> Written {
@@ -96,7 +135,7 @@ impl Naive {
             Call::Read { .. } => Written::Bytes(self.drive(call)),
             Call::Extract { start, length, .. } => Written::Bytes(self.drive(call)[*start..*start + *length].to_vec()),
             Call::Locate { pattern, .. } => Written::Words(as_words(&occurrences(pattern, &self.drive(call)))),
-            Call::Cuts { pattern } => Written::Words(as_words(&listed_cuts(&Order::Signed.values(pattern)))),
+            Call::Cuts { pattern } => Written::Words(as_words(&self.listed_cuts(pattern))),
             Call::LyndonArray { .. } => Written::Words(as_words(&self.lyndon_array(call))),
             Call::ToSigned { .. } => {
                 let (drive, chair) = (self.drive(call), self.chair(call));
@@ -116,14 +155,11 @@ impl Naive {
 
     fn lyndon_array(&mut self, call: &Call) -> Vec<usize> {
         let drive = self.drive(call);
-        match &self.lengths {
-            Some((text, lengths)) if *text == drive => lengths.clone(),
-            _ => {
-                let lengths = lyndon_array(&Order::Signed.values(&drive));
-                self.lengths = Some((drive, lengths.clone()));
-                lengths
-            }
-        }
+        self.lengths.of(drive, |drive| lyndon_array(&Order::Signed.values(drive)))
+    }
+
+    fn listed_cuts(&mut self, pattern: &[u8]) -> Vec<usize> {
+        self.cuts.of(pattern.to_vec(), |pattern| listed_cuts(&Order::Signed.values(pattern)))
     }
 
     fn chair(&mut self, call: &Call) -> u16 {
@@ -136,29 +172,14 @@ impl Naive {
     /// What the call's table is. The converter alone judges by the unsigned order.
     fn verdict(&mut self, call: &Call) -> Verdict {
         let order = if matches!(call, Call::ToSigned { .. }) { Order::Unsigned } else { Order::Signed };
-        let table = table(call);
-        match &self.judged {
-            Some((by, judged, verdict)) if *by == order && judged == table => verdict.clone(),
-            _ => {
-                let verdict = match bad_word(table) {
-                    Some(place) => Verdict::Bad(place),
-                    None => drive_of(order, table).map_or(Verdict::Foreign, |(text, chair)| Verdict::Drive(text, chair)),
-                };
-                self.judged = Some((order, table.to_vec(), verdict.clone()));
-                verdict
-            }
-        }
+        self.judged.of((order, table(call).to_vec()), |(order, table)| match bad_word(table) {
+            Some(place) => Verdict::Bad(place),
+            None => drive_of(*order, table).map_or(Verdict::Foreign, |(text, chair)| Verdict::Drive(text, chair)),
+        })
     }
 
     fn build(&mut self, text: &[u8], chair: u16) -> Vec<u32> {
-        match &self.built {
-            Some((t, c, words)) if t == text && *c == chair => words.clone(),
-            _ => {
-                let words = table_of(Order::Signed, text, chair);
-                self.built = Some((text.to_vec(), chair, words.clone()));
-                words
-            }
-        }
+        self.built.of((text.to_vec(), chair), |(text, chair)| table_of(Order::Signed, text, *chair))
     }
 }
 
@@ -174,7 +195,7 @@ fn concerns(call: &Call, number: u32) -> bool {
 }
 
 fn refusal(number: u32, place: usize) -> Outcome {
-    Outcome { number, place: place as u64, count: 0, chair: 0 }
+    Outcome { number, place: place as u64, count: 0, chair: 0, tests: 0 }
 }
 
 /// The slices with the first 16,384 words of the work slice zero; the listing of cuts takes no work slice.

@@ -1,4 +1,5 @@
-//! The table of a drive and chair number in an order of samples, the bad words of a table, and whether a table is that of some drive and chair number.
+//! The table of a drive and chair number in an order of samples, the bad words of a table, whether a table is that of some drive and chair number, and the
+//! lengths of its pair rules' halves.
 
 use super::order::Order;
 use super::words::Common;
@@ -79,6 +80,23 @@ pub fn drive_of(order: Order, table: &[u32]) -> Option<(Vec<u8>, u16)> {
     let text: Vec<u8> = samples.iter().map(|&symbol| symbol.checked_sub(1).map(|sample| sample as u8)).collect::<Option<_>>()?;
     let chair = parts(table[1]).1 as u16;
     (text.len() <= 2047 && table_of(order, &text, chair) == table).then_some((text, chair))
+}
+
+/// How many symbols the left half and the right half of each pair rule have, of a table that is accepted; the mark is one.
+pub fn halves(table: &[u32]) -> Vec<(usize, usize)> {
+    let mut lengths: Vec<usize> = Vec::new();
+    let mut halves = Vec::new();
+    for words in table.chunks(2) {
+        let [(kind, left), (_, right)] = [parts(words[0]), parts(words[1])];
+        if kind == 0 {
+            lengths.push(1);
+        } else {
+            let (left, right) = (lengths[left as usize], lengths[right as usize]);
+            lengths.push(left + right);
+            halves.push((left, right));
+        }
+    }
+    halves
 }
 
 /// Adds the string of a rule, and stops once there are more symbols than a marked drive has.

@@ -48,7 +48,8 @@ else:
     Buffer = object
 
 __all__ = [
-    "INTERFACE", "Table", "build", "check", "read", "extract", "count", "count_each", "locate", "live_cuts", "lyndon_length", "lyndon_array", "to_signed",
+    "INTERFACE", "Table", "build", "check", "read", "extract", "count", "count_with_tests", "count_each", "locate", "locate_with_tests", "live_cuts",
+    "lyndon_length", "lyndon_array", "to_signed",
     "Refusal", "TextTooLong", "PatternEmpty", "PatternTooLong", "WorkTooShort", "TableLength", "BadWord", "NotATable", "RangePastEnd", "ResultTooShort",
 ]
 
@@ -109,9 +110,17 @@ class Table:
         """How often the pattern begins in its text: `sirbolta.count`."""
         return count(self, pattern)
 
+    def count_with_tests(self, pattern: Samples) -> tuple[int, int]:
+        """The same, and how many tests the search made: `sirbolta.count_with_tests`."""
+        return count_with_tests(self, pattern)
+
     def locate(self, pattern: Samples) -> list[int]:
         """The positions at which the pattern begins in its text: `sirbolta.locate`."""
         return locate(self, pattern)
+
+    def locate_with_tests(self, pattern: Samples) -> tuple[list[int], int]:
+        """The same, and how many tests the search made: `sirbolta.locate_with_tests`."""
+        return locate_with_tests(self, pattern)
 
     def lyndon_length(self, position: int) -> int:
         """The length of the longest Lyndon word that begins at a position of its text: `sirbolta.lyndon_length`."""
@@ -206,13 +215,28 @@ def count(table: Words, pattern: Samples) -> int:
     >>> count(build(b"aaaa", chair=40), b"aa")
     3
     """
+    return count_with_tests(table, pattern)[0]
+
+
+def count_with_tests(table: Words, pattern: Samples) -> tuple[int, int]:
+    """How often the pattern begins in the text, as `count` says, and how many tests the search made.
+
+    A test is a pair rule of the table, one with a left and a right half, together with a cut of the pattern that `live_cuts` lists, where the left half has at
+    least as many symbols as the pattern has samples before the cut, and the right half at least as many as it has from the cut on. Symbols are the samples and the
+    mark, which stands before them. A rule counts once, however often its string stands in the text. A pattern of one sample has no test; one of m samples in a text
+    of n has at most n + 2 - m, none where that would be negative.
+
+    >>> count_with_tests(build(b"abab", chair=40), b"ab")
+    (2, 3)
+    """
     samples = _samples(pattern)
-    return _counted(_reply_to(table, _library.sirbolta_count, samples, len(samples), _work(), _WORK))
+    reply = _reply_to(table, _library.sirbolta_count, samples, len(samples), _work(), _WORK)
+    return _counted(reply), reply.tests
 
 
 def count_each(tables: Iterable[Words], pattern: Samples) -> list[int]:
     """How often the pattern begins in the text of each table: `count` of each in turn, a hundred by one call of the library. A table that is neither a `Table` nor
-    bytes is copied. Refusals: that of the first table which is refused; its `table` is the index of this table.
+    bytes is copied. It answers counts alone, without the tests. Refusals: that of the first table which is refused; its `table` is the index of this table.
 
     >>> count_each([build(b"aaaa", chair=40), build(b"abab", chair=40)], b"aa")
     [3, 0]
@@ -243,9 +267,19 @@ def locate(table: Words, pattern: Samples) -> list[int]:
     >>> locate(build(b"aaaa", chair=40), b"aa")
     [0, 1, 2]
     """
+    return locate_with_tests(table, pattern)[0]
+
+
+def locate_with_tests(table: Words, pattern: Samples) -> tuple[list[int], int]:
+    """The positions at which the pattern begins in the text, as `locate` lists them, and how many tests the search made, as `count_with_tests` says.
+
+    >>> locate_with_tests(build(b"abab", chair=40), b"ab")
+    ([0, 2], 3)
+    """
     _enough_stack()
     samples, result = _samples(pattern), _Numbers()
-    return result[: _counted(_reply_to(table, _library.sirbolta_locate, samples, len(samples), _work(), _WORK, result, _SAMPLES))]
+    reply = _reply_to(table, _library.sirbolta_locate, samples, len(samples), _work(), _WORK, result, _SAMPLES)
+    return result[: _counted(reply)], reply.tests
 
 
 def live_cuts(pattern: Samples) -> list[int]:

@@ -9,7 +9,7 @@ import threading
 from pathlib import Path
 from typing import Any
 
-INTERFACE = 1
+INTERFACE = 2
 WORK = 16_384  # the words of a work slice
 STACK = 512 << 10  # bytes: on a smaller stack reading back and locating, which take up to 240 KiB of it, are not called
 
@@ -27,7 +27,8 @@ class SearchReply(ctypes.Structure):
     chair: int
     place: int
     count: int
-    _fields_ = [("number", ctypes.c_uint32), ("chair", ctypes.c_uint32), ("place", ctypes.c_uint64), ("count", ctypes.c_uint64)]
+    tests: int
+    _fields_ = [*Reply._fields_, ("tests", ctypes.c_uint64)]
 
 
 SLICE = [ctypes.c_void_p, ctypes.c_size_t]

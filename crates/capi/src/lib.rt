@@ -15,7 +15,7 @@ ghost use Rattle.definitions.specs.Replies.{Replies, SearchReplies, interfaceNu
 pub extern "C" fn sirbolta_interface() -> u32
     ensures { λ r. ⌜ r ≡ interfaceNumber ⌝ }
 {
-    1
+    2
 }
 
 // Builds the table of a text and a chair number: `index::build`.

@@ -1,13 +1,13 @@
 -- Live cuts of a pattern, its occurrences, and those at the join of a pair rule (document 01, "Live cuts" and "Finds and joins"); which live cuts
--- are listed (document 02, S-3). A pattern is document 01's motif, an occurrence its find; `live cut` is document 01's own term.
-use Prim.Native.Nat.{ℕ, suc, _+_, _-_}
-use mathlib.Core.Bool.{Bool, false, not, _&&_, _||_}
+-- are listed, and the tests of a search (document 02, S-3 and S-4). A pattern is document 01's motif, an occurrence its find; `live cut` is document 01's own term.
+use Prim.Native.Nat.{ℕ, zero, suc, _+_, _-_}
+use mathlib.Core.Bool.{Bool, false, cond, not, _&&_, _||_}
 use mathlib.Core.List.{List, [], _∷_, _++_, map}
 use lib.ListN.{length, take, drop}
-use lib.Dec.{ltb, eqb}
+use lib.Dec.{ltb, leb, eqb}
 use Rattle.definitions.specs.declared.Order.{Order}
 use Rattle.definitions.specs.Words.{every, below, begins, lexlt, lyndon}
-use Rattle.definitions.specs.Table.{rankOf}
+use Rattle.definitions.specs.Table.{rankOf, ruleCount, isPair, leftHalf, rightHalf}
 
 -- ---- live cuts
 
@@ -67,3 +67,32 @@ cutIn (c ∷ cuts) u i = eqb (i + c) (length u) || cutIn cuts u i
 -- the occurrences that are cut at the join at one of the cuts listed
 unfoldable pub cutAt : List ℕ → List ℕ → List ℕ → List ℕ → List ℕ
 cutAt p cuts u v = below (λ i. begins p (drop i (u ++ v)) && cutIn cuts u i) (suc (length (u ++ v)))
+
+-- ---- tests: t is a table, p a pattern of samples
+
+-- the cut c of m samples fits a join with so many symbols on its left and on its right; the mark is a symbol
+unfoldable pub fitsJoin : ℕ → ℕ → ℕ → ℕ → Bool
+fitsJoin m left right c = leb c left && leb (m - c) right
+
+-- rule r is tested at the cut c of m samples: it is a pair rule, and the cut fits its join
+unfoldable pub isTested : Order → List ℕ → ℕ → ℕ → ℕ → Bool
+isTested o t m r c = isPair t r && fitsJoin m (length (leftHalf o t r)) (length (rightHalf o t r)) c
+
+-- a test: a pair rule and a cut
+pub record Test : Type 0 where
+  pub rule : ℕ
+  pub cut : ℕ
+
+-- the tests of rule r at some of the cuts
+unfoldable pub testsOf : Order → List ℕ → ℕ → List ℕ → ℕ → List Test
+testsOf o t m [] r = []
+testsOf o t m (c ∷ cuts) r = cond (isTested o t m r c) (record { rule = r; cut = c } ∷ []) [] ++ testsOf o t m cuts r
+
+-- the tests of the first n rules
+unfoldable pub testsBelow : Order → List ℕ → ℕ → List ℕ → ℕ → List Test
+testsBelow o t m cuts zero = []
+testsBelow o t m cuts (suc n) = testsBelow o t m cuts n ++ testsOf o t m cuts n
+
+-- the tests of a search: every rule of the table, every listed cut of the pattern
+unfoldable pub tests : Order → List ℕ → List ℕ → List Test
+tests o t p = testsBelow o t (length p) (patternCuts o p) (ruleCount t)

@@ -1,22 +1,24 @@
--- A reply's four numbers, each under its own name, and the outcome that a reply stands for; and the number of the interface.
+-- The reply that each outcome has in the interface to C, which has no enums: its number is 0 on success alone; and the number of the interface.
 use Prim.Native.Nat.{ℕ}
 use mathlib.Core.Path.{_≡_}
-use Rattle.definitions.specs.Services.{Numbers, Outcome, numbersOf}
+use Rattle.definitions.specs.Services.{Outcome, done, refused}
 use Rattle.definitions.specs.declared.Reply.{Reply}
 use Rattle.definitions.specs.declared.SearchReply.{SearchReply}
 
-unfoldable pub replyNumbers : Reply → Numbers
-replyNumbers r = record { number = r .number; place = r .place; count = r .count; chair = r .chair }
+unfoldable pub replyOf : Outcome → Reply
+replyOf (done n chair) = record { number = 0; chair = chair; place = 0; count = n }
+replyOf (refused number place) = record { number = number; chair = 0; place = place; count = 0 }
 
-unfoldable pub searchNumbers : SearchReply → Numbers
-searchNumbers r = record { number = r .number; place = r .place; count = r .count; chair = r .chair }
+unfoldable pub searchReplyOf : Outcome → SearchReply
+searchReplyOf (done n made) = record { number = 0; chair = 0; place = 0; count = n; tests = made }
+searchReplyOf (refused number place) = record { number = number; chair = 0; place = place; count = 0; tests = 0 }
 
 abbrev pub Replies : Reply → Outcome → Type 0
-Replies r o = replyNumbers r ≡ numbersOf o
+Replies r o = r ≡ replyOf o
 
 abbrev pub SearchReplies : SearchReply → Outcome → Type 0
-SearchReplies r o = searchNumbers r ≡ numbersOf o
+SearchReplies r o = r ≡ searchReplyOf o
 
 -- goes up with every change of a signature or a struct of the interface to C
 abbrev pub interfaceNumber : ℕ
-interfaceNumber = 1
+interfaceNumber = 2

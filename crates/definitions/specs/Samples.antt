@@ -1,6 +1,7 @@
 -- The samples of document 01 that are marked P, its live cuts, its two examples of a cut at a join, its table of `abab` for chair 40, tables that it says are
--- foreign, some of its edges as outcomes of services, and what its program prints; the arrays of S-1; drives whose tables, cuts and lengths the order of S-2 changes; and patterns
--- with live cuts that S-3 does not list: by computation, under one claim.
+-- foreign, some of its edges as outcomes of services, and what its program prints; the arrays of S-1; drives whose tables, cuts and lengths the order of S-2 changes; patterns
+-- with live cuts that S-3 does not list; and the tests of S-4, in `abab` those of a rule that stands twice in the tree and of one whose left half is the mark:
+-- by computation, under one claim.
 use Prim.Native.Nat.{ℕ, _+_, _-_}
 use mathlib.Core.Path.{_≡_, refl}
 use mathlib.Core.Bool.{Bool, true, false, cond, _&&_}
@@ -11,15 +12,12 @@ use Rattle.definitions.specs.declared.Answer.{Answer}
 use Rattle.definitions.specs.declared.ReadAnswer.{ReadAnswer}
 use Rattle.definitions.specs.declared.ReadAnswer.the-variants as read
 use Rattle.definitions.specs.declared.Answer.the-variants.{Done, Refused}
-use Rattle.definitions.specs.declared.Search.{Search}
-use Rattle.definitions.specs.declared.Reply.{Reply}
-use Rattle.definitions.specs.declared.SearchReply.{SearchReply}
 use Rattle.definitions.specs.Words.{every, below, least, placed, same, begins, lexlt, lyndon, cutOf, greatest, lyndonLength, lyndonArray}
 use Rattle.definitions.specs.Grammar.{leftOf, rightOf, word, split, lyndonTree, indexOf, meet, visit, order, ruleOf, rulesOf}
 use Rattle.definitions.specs.Table.{rankOf, byteOf, numberOfRank, rankOfNumber, marked, wordOf, kindOf, numberOf, ruleWords, words, tableOf, badFirst, badSecond, badWord, stringOf, strings, ruleString, isPair, leftHalf, rightHalf, spelled, textOf, chairOf, isDrive, isChair, isTable}
-use Rattle.definitions.specs.Occurrences.{occurrences, notGreaterAtDifference, isLive, liveCuts, wordAgain, isListed, listedCuts, patternCuts, straddles, straddling, cutIn, cutAt}
-use Rattle.definitions.specs.Services.{Numbers, Outcome, numbersOf, readOutcome, searchOutcome, Service, firstMet, outcome, outcomeOf, cleared, slicesAfter, sampleOrder, formerOrder, tableChecks, patternChecks, buildService, checkService, readService, extractService, countService, locateService, cutsService, lyndonLengthService, lyndonArrayService, convertOrderService}
-use Rattle.definitions.specs.Replies.{replyNumbers, searchNumbers}
+use Rattle.definitions.specs.Occurrences.{occurrences, notGreaterAtDifference, isLive, liveCuts, wordAgain, isListed, listedCuts, patternCuts, straddles, straddling, cutIn, cutAt, fitsJoin, isTested, Test, testsOf, testsBelow, tests}
+use Rattle.definitions.specs.Services.{Outcome, done, refused, readOutcome, searchOf, Service, firstMet, outcome, outcomeOf, cleared, slicesAfter, sampleOrder, formerOrder, tableChecks, patternChecks, buildService, checkService, readService, extractService, countService, locateService, cutsService, lyndonLengthService, lyndonArrayService, convertOrderService}
+use Rattle.definitions.specs.Replies.{replyOf, searchReplyOf}
 use Rattle.definitions.specs.Programs.{digits, digitsUpTo, digitCount, decimal, line, named, decimalLines, refusedLine, printed, motifOf, driveOf, foundLines, motifOutput}
 
 abbrev pub a : ℕ
@@ -82,13 +80,15 @@ pub data Sample : Type 0 where
   cuts : List ℕ → List ℕ → Sample
   -- in this pair rule of the drive's table the pattern straddles the join at just these places, and is cut there at listed cuts
   joins : List ℕ → ℕ → List ℕ → List ℕ → Sample
+  -- in the drive's table the search for the pattern makes just these tests: rule and cut, rule and cut, ..
+  tries : List ℕ → List ℕ → List ℕ → Sample
   -- the Lyndon array of the drive
   lengths : List ℕ → List ℕ → Sample
   -- the ranks of the bytes
   ranks : List ℕ → List ℕ → Sample
   -- the table of the drive and chair number, word by word
   table : List ℕ → ℕ → List ℕ → Sample
-  -- the service ends with this number, place, count and chair number
+  -- the service ends with this number, place and count, and this number beside the count
   ends : Service → ℕ → ℕ → ℕ → ℕ → Sample
   -- the slice that is lent last holds this afterwards
   leaves : Service → List ℕ → Sample
@@ -100,10 +100,11 @@ pub data Sample : Type 0 where
   answers : Answer → ℕ → ℕ → ℕ → Sample
   -- the same of an answer to reading, with the chair number
   reads : ReadAnswer → ℕ → ℕ → ℕ → ℕ → Sample
-  -- the same of an answer to counting or locating, and of the replies to C
-  searches : Search → ℕ → ℕ → ℕ → Sample
-  replies : Reply → ℕ → ℕ → ℕ → ℕ → Sample
-  found : SearchReply → ℕ → ℕ → ℕ → ℕ → Sample
+  -- a search with this outcome answers this, and so many tests
+  searches : Outcome → Answer → ℕ → Sample
+  -- the outcome's reply to C has this number, chair number, place and count; a search's reply to C has these and so many tests
+  replies : Outcome → ℕ → ℕ → ℕ → ℕ → Sample
+  found : Outcome → ℕ → ℕ → ℕ → ℕ → ℕ → Sample
   -- the number in decimal
   spells : ℕ → List ℕ → Sample
   -- the input makes the program `motif` print this
@@ -117,12 +118,15 @@ unfoldable pub edges : List ℕ → List ℕ
 edges [] = []
 edges (x ∷ l) = x ∷ drop 16382 l
 
--- number, place, count and chair number, of an outcome too
-unfoldable pub four : Numbers → List ℕ
-four n = n .number ∷ n .place ∷ n .count ∷ n .chair ∷ []
-
+-- number, place and count, and the number beside the count
 unfoldable pub parts : Outcome → List ℕ
-parts r = four (numbersOf r)
+parts (done n beside) = 0 ∷ 0 ∷ n ∷ beside ∷ []
+parts (refused number place) = number ∷ place ∷ 0 ∷ 0 ∷ []
+
+-- rule and cut of each test
+unfoldable pub flat : List Test → List ℕ
+flat [] = []
+flat (x ∷ l) = x .rule ∷ x .cut ∷ flat l
 
 unfoldable pub holds : Sample → Bool
 holds (rules text n) =
@@ -139,18 +143,20 @@ holds (joins text r p places) =
     let v = rightHalf sampleOrder t r in
     let q = map (rankOf sampleOrder) p in
     isPair t r && (same (straddling q u v) places && same (cutAt q (patternCuts sampleOrder p) u v) places)
+holds (tries text p l) = same (flat (tests sampleOrder (tableOf sampleOrder text 40) p)) l
 holds (lengths text l) = same (lyndonArray (map (rankOf sampleOrder) text)) l
 holds (ranks bytes l) = same (map (rankOf sampleOrder) bytes) l
 holds (table text chair t) = same (tableOf sampleOrder text chair) t
-holds (ends s number place count chair) = same (parts (outcome s)) (number ∷ place ∷ count ∷ chair ∷ [])
+holds (ends s number place count beside) = same (parts (outcome s)) (number ∷ place ∷ count ∷ beside ∷ [])
 holds (leaves s after) = same (last (slicesAfter s)) after
 holds (clears s b) = eqb (getD (getD (slicesAfter s) 0 []) 0 7) (cond b 0 7)
 holds (clearing work l) = same (edges (cleared work)) l
 holds (answers r number place count) = same (parts (outcomeOf r)) (number ∷ place ∷ count ∷ 0 ∷ [])
 holds (reads r number place count chair) = same (parts (readOutcome r)) (number ∷ place ∷ count ∷ chair ∷ [])
-holds (searches s number place count) = same (parts (searchOutcome s)) (number ∷ place ∷ count ∷ 0 ∷ [])
-holds (replies r number place count chair) = same (four (replyNumbers r)) (number ∷ place ∷ count ∷ chair ∷ [])
-holds (found r number place count chair) = same (four (searchNumbers r)) (number ∷ place ∷ count ∷ chair ∷ [])
+holds (searches o r tests) = let s = searchOf o in same (parts (outcomeOf (s .answer))) (parts (outcomeOf r)) && eqb (s .tests) tests
+holds (replies o number chair place count) = let r = replyOf o in same (r .number ∷ r .chair ∷ r .place ∷ r .count ∷ []) (number ∷ chair ∷ place ∷ count ∷ [])
+holds (found o number chair place count tests) =
+    let r = searchReplyOf o in same (r .number ∷ r .chair ∷ r .place ∷ r .count ∷ r .tests ∷ []) (number ∷ chair ∷ place ∷ count ∷ tests ∷ [])
 holds (spells n bytes) = same (decimal n) bytes
 holds (prints input output) = same (motifOutput sampleOrder input) output
 
@@ -199,6 +205,14 @@ samples =
     ∷ joins (a ∷ a ∷ b ∷ b ∷ []) 5 (a ∷ a ∷ b ∷ []) (0 ∷ [])
     ∷ joins (a ∷ b ∷ b ∷ b ∷ []) 5 (b ∷ b ∷ b ∷ []) (1 ∷ [])
     ∷ joins (a ∷ b ∷ b ∷ b ∷ []) 5 (b ∷ []) []
+    ∷ tries abab (b ∷ a ∷ []) (3 ∷ 1 ∷ 4 ∷ 1 ∷ 5 ∷ 1 ∷ [])
+    ∷ tries abab (b ∷ a ∷ b ∷ []) (4 ∷ 1 ∷ 5 ∷ 1 ∷ [])
+    ∷ tries abab (a ∷ []) []
+    ∷ tries (0 ∷ 1 ∷ 0 ∷ 1 ∷ []) (1 ∷ 0 ∷ []) (3 ∷ 1 ∷ 4 ∷ 1 ∷ 5 ∷ 1 ∷ [])
+    ∷ tries (a ∷ a ∷ b ∷ a ∷ a ∷ b ∷ []) (a ∷ a ∷ b ∷ a ∷ []) (5 ∷ 1 ∷ 6 ∷ 1 ∷ 6 ∷ 3 ∷ [])
+    ∷ tries (a ∷ a ∷ a ∷ b ∷ a ∷ a ∷ a ∷ b ∷ []) (a ∷ a ∷ a ∷ a ∷ []) (5 ∷ 1 ∷ 6 ∷ 1 ∷ 7 ∷ 1 ∷ 7 ∷ 3 ∷ [])
+    ∷ tries (a ∷ []) (a ∷ a ∷ []) (2 ∷ 1 ∷ [])
+    ∷ tries [] (a ∷ a ∷ []) []
     ∷ lengths abab (2 ∷ 1 ∷ 2 ∷ 1 ∷ [])
     ∷ lengths (a ∷ a ∷ b ∷ []) (3 ∷ 2 ∷ 1 ∷ [])
     ∷ lengths (a ∷ a ∷ a ∷ a ∷ []) (1 ∷ 1 ∷ 1 ∷ 1 ∷ [])
@@ -246,9 +260,11 @@ samples =
     ∷ ends (extractService sampleOrder ofAbab 4 0 room []) 0 0 0 0
     ∷ ends (extractService sampleOrder ofAbab 4 1 room []) 8 0 0 0
     ∷ ends (extractService sampleOrder ofAbab 18446744073709551615 2 room (replicate 2 7)) 8 0 0 0
-    ∷ ends (countService sampleOrder ofAbab (b ∷ a ∷ []) room) 0 0 1 0
+    ∷ ends (countService sampleOrder ofAbab (b ∷ a ∷ []) room) 0 0 1 3
+    ∷ ends (countService sampleOrder ofAbab (a ∷ []) room) 0 0 2 0
     ∷ ends (countService sampleOrder [] [] []) 2 0 0 0
     ∷ ends (countService sampleOrder twoRules (a ∷ []) room) 7 0 0 0
+    ∷ ends (locateService sampleOrder ofAbab (b ∷ a ∷ b ∷ []) room (replicate 1 7)) 0 0 1 2
     ∷ ends (locateService sampleOrder [] [] [] []) 2 0 0 0
     ∷ ends (locateService sampleOrder twoRules (a ∷ []) room (replicate 2 7)) 7 0 0 0
     ∷ ends (cutsService sampleOrder [] []) 2 0 0 0
@@ -301,9 +317,12 @@ samples =
     ∷ answers (Refused 6 5) 6 5 0
     ∷ reads (read.Done 5 40) 0 0 5 40
     ∷ reads (read.Refused 6 5) 6 5 0 0
-    ∷ searches (record { answer = Refused 6 5 }) 6 5 0
-    ∷ replies (record { number = 1; chair = 2; place = 3; count = 4 }) 1 3 4 2
-    ∷ found (record { number = 1; chair = 2; place = 3; count = 4 }) 1 3 4 2
+    ∷ searches (done 5 8) (Done 5) 8
+    ∷ searches (refused 6 5) (Refused 6 5) 0
+    ∷ replies (done 5 40) 0 40 0 5
+    ∷ replies (refused 6 5) 6 0 5 0
+    ∷ found (done 5 8) 0 0 0 5 8
+    ∷ found (refused 6 5) 6 0 5 0 0
     ∷ spells 0 (48 ∷ [])
     ∷ spells 9 (57 ∷ [])
     ∷ spells 10 (49 ∷ 48 ∷ [])
@@ -339,5 +358,5 @@ samples =
 
 -- every sample holds
 pub samples-hold : all samples ≡ true
-unfolding edges holds all samples four parts numbersOf readOutcome searchOutcome replyNumbers searchNumbers every below least placed same begins lexlt lyndon cutOf greatest lyndonLength lyndonArray leftOf rightOf word split lyndonTree indexOf meet visit order ruleOf rulesOf rankOf byteOf numberOfRank rankOfNumber marked wordOf kindOf numberOf ruleWords words tableOf badFirst badSecond badWord stringOf strings ruleString isPair leftHalf rightHalf spelled textOf chairOf isDrive isChair isTable occurrences notGreaterAtDifference isLive liveCuts wordAgain isListed listedCuts patternCuts straddles straddling cutIn cutAt firstMet outcome outcomeOf cleared slicesAfter last tableChecks patternChecks buildService checkService readService extractService countService locateService cutsService lyndonLengthService lyndonArrayService convertOrderService digits digitsUpTo digitCount decimal line named decimalLines refusedLine printed motifOf driveOf foundLines motifOutput
+unfolding edges holds all samples parts readOutcome searchOf replyOf searchReplyOf every below least placed same begins lexlt lyndon cutOf greatest lyndonLength lyndonArray leftOf rightOf word split lyndonTree indexOf meet visit order ruleOf rulesOf rankOf byteOf numberOfRank rankOfNumber marked wordOf kindOf numberOf ruleWords words tableOf badFirst badSecond badWord stringOf strings ruleString isPair leftHalf rightHalf spelled textOf chairOf isDrive isChair isTable occurrences notGreaterAtDifference isLive liveCuts wordAgain isListed listedCuts patternCuts straddles straddling cutIn cutAt fitsJoin isTested testsOf testsBelow tests flat firstMet outcome outcomeOf cleared slicesAfter last tableChecks patternChecks buildService checkService readService extractService countService locateService cutsService lyndonLengthService lyndonArrayService convertOrderService digits digitsUpTo digitCount decimal line named decimalLines refusedLine printed motifOf driveOf foundLines motifOutput
 samples-hold = refl

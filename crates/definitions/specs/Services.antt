@@ -1,4 +1,4 @@
--- What each service answers and leaves in the slices lent to it (document 01, "When a request is turned down"; document 02, S-1 and S-2).
+-- What each service answers and leaves in the slices lent to it (document 01, "When a request is turned down"; document 02, S-1 to S-4).
 -- A service's checks are an ordered list; the first that is met decides number, place and what becomes of each lent slice.
 use Prim.Native.Nat.{ℕ, _+_, _%_}
 use mathlib.Core.Bool.{Bool, true, false, cond, not, _||_}
@@ -15,26 +15,15 @@ use Rattle.definitions.specs.declared.ReadAnswer.the-variants as read
 use Rattle.definitions.specs.declared.Search.{Search}
 use Rattle.definitions.specs.Words.{least, placed, lyndonLength, lyndonArray}
 use Rattle.definitions.specs.Table.{rankOf, tableOf, badWord, isTable, textOf, chairOf, ruleCount}
-use Rattle.definitions.specs.Occurrences.{occurrences, patternCuts}
+use Rattle.definitions.specs.Occurrences.{occurrences, patternCuts, tests}
 
 -- ---- outcomes
 
 pub data Outcome : Type 0 where
-  -- success: the number that it gives, and the chair number, which reading adds; 0 elsewhere
+  -- success: the number that it gives, and one beside it: reading adds the chair number, a search the number of its tests; 0 elsewhere
   done : ℕ → ℕ → Outcome
   -- a refusal: its number and place
   refused : ℕ → ℕ → Outcome
-
--- an outcome as four numbers, for interfaces without enums: number is 0 on success alone
-pub record Numbers : Type 0 where
-  pub number : ℕ
-  pub place : ℕ
-  pub count : ℕ
-  pub chair : ℕ
-
-unfoldable pub numbersOf : Outcome → Numbers
-numbersOf (done count chair) = record { number = 0; place = 0; count = count; chair = chair }
-numbersOf (refused number place) = record { number = number; place = place; count = 0; chair = 0 }
 
 -- the outcome that each answer stands for
 unfoldable pub outcomeOf : Answer → Outcome
@@ -45,8 +34,10 @@ unfoldable pub readOutcome : ReadAnswer → Outcome
 readOutcome (read.Done n chair) = done n chair
 readOutcome (read.Refused number place) = refused number place
 
-unfoldable pub searchOutcome : Search → Outcome
-searchOutcome s = outcomeOf (s .answer)
+-- and the record that a search answers with: a refused one makes no tests
+unfoldable pub searchOf : Outcome → Search
+searchOf (done n made) = record { answer = answer.Done n; tests = made }
+searchOf (refused number place) = record { answer = answer.Refused number place; tests = 0 }
 
 -- ---- checks
 
@@ -111,7 +102,7 @@ abbrev pub Reads : ReadAnswer → Outcome → Type 0
 Reads r o = readOutcome r ≡ o
 
 abbrev pub Searches : Search → Outcome → Type 0
-Searches r o = searchOutcome r ≡ o
+Searches r o = r ≡ searchOf o
 
 -- ---- the checks: when met, number, place, whether the work slice is cleared
 
@@ -162,13 +153,13 @@ tableChecks o t n = workTooShort n ∷ tableLength (length t) ∷ hasBadWord t �
 unfoldable pub patternChecks : List ℕ → List Check
 patternChecks p = patternEmpty p ∷ patternTooLong p ∷ []
 
--- what a service that answers alone gives; one that writes a list gives the number of its entries, and the chair number
+-- what a service that answers alone gives; one that writes a list gives the number of its entries, and the number beside it
 abbrev pub gives : List Check → Outcome → Service
 gives checks success = record { checks = checks; success = success; lent = [] }
 
 abbrev pub writes : List Check → List ℕ → ℕ → List ℕ → Service
-writes checks l chair result =
-    record { checks = checks ++ (resultTooShort (length l) (length result) ∷ []); success = done (length l) chair; lent = resultSlice l result ∷ [] }
+writes checks l beside result =
+    record { checks = checks ++ (resultTooShort (length l) (length result) ∷ []); success = done (length l) beside; lent = resultSlice l result ∷ [] }
 
 -- the same with a work slice, which is lent first
 abbrev pub working : List ℕ → Service → Service
@@ -192,13 +183,15 @@ extractService o t start count work result =
     let text = textOf o t in
     working work (writes (tableChecks o t (length work) ++ (rangePastEnd (length text) start count ∷ [])) (take count (drop start text)) 0 result)
 
--- count the occurrences of a pattern
+-- count the occurrences of a pattern, and the tests
 unfoldable pub countService : Order → List ℕ → List ℕ → List ℕ → Service
-countService o t p work = working work (gives (patternChecks p ++ tableChecks o t (length work)) (done (length (occurrences p (textOf o t))) 0))
+countService o t p work =
+    working work (gives (patternChecks p ++ tableChecks o t (length work)) (done (length (occurrences p (textOf o t))) (length (tests o t p))))
 
--- list the occurrences of a pattern
+-- list the occurrences of a pattern, and count the tests
 unfoldable pub locateService : Order → List ℕ → List ℕ → List ℕ → List ℕ → Service
-locateService o t p work result = working work (writes (patternChecks p ++ tableChecks o t (length work)) (occurrences p (textOf o t)) 0 result)
+locateService o t p work result =
+    working work (writes (patternChecks p ++ tableChecks o t (length work)) (occurrences p (textOf o t)) (length (tests o t p)) result)
 
 -- list the live cuts of a pattern, but those that are dropped
 unfoldable pub cutsService : Order → List ℕ → List ℕ → Service

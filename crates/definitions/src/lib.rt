@@ -18,9 +18,10 @@ pub enum ReadAnswer {
     Refused(u32, usize),
 }
 
-// What counting and locating answer with: a record, which request S-4 gives a second field.
+// What counting and locating answer with: the answer, and how many tests the search makes, 0 if it is refused.
 pub struct Search {
     pub answer: Answer,
+    pub tests: usize,
 }
 
 // What the interface to C replies with. number: 0 on success, else the refusal's.
@@ -32,11 +33,12 @@ pub struct Reply {
     pub count: u64,
 }
 
-// What counting and locating reply with there, a record of its own for the same reason.
+// What counting and locating reply with there.
 #[repr(C)]
 pub struct SearchReply {
     pub number: u32,
     pub chair: u32,
     pub place: u64,
     pub count: u64,
+    pub tests: u64,
 }

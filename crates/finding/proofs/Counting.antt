@@ -5,7 +5,7 @@ use Prim.Native.Nat.{ℕ}
 use lib.ListN.{length}
 use Rattle.definitions.specs.declared.Order.{Order}
 use Rattle.definitions.specs.Table.{tableOf, ruleCount}
-use Rattle.definitions.specs.Occurrences.{occurrences}
+use Rattle.definitions.specs.Occurrences.{occurrences, tests}
 use Rattle.state.specs.State.{Loaded, Ready}
 use Rattle.search.specs.Searching.{Starts, Searched}
 use Rattle.listing.specs.Listing.{Finds}
@@ -25,7 +25,8 @@ module _ (o : Order) (w : List ℕ) (rules : ℕ) (h : Ready w) (e : h .order �
   pub loaded-starts : Starts o rules w
   loaded-starts = record { text = h .text; chair = h .chair; loaded = loaded-in; size = in-order o w h rules e size }
 
-  pub loaded-count : (p v : List ℕ) (n : ℕ)
-      → ((text : List ℕ) (chair : ℕ) → Loaded o text chair w → rules ≡ ruleCount (tableOf o text chair) → (n ≡ length (occurrences p text)) × Searched o p text chair v)
-      → (n ≡ length (occurrences p (h .text))) × Searched o p (h .text) (h .chair) v
-  loaded-count p v n f = f (h .text) (h .chair) loaded-in (in-order o w h rules e size)
+  pub loaded-count : (p v : List ℕ) (n k : ℕ)
+      → ((text : List ℕ) (chair : ℕ) → Loaded o text chair w → rules ≡ ruleCount (tableOf o text chair)
+      → (n ≡ length (occurrences p text)) × (k ≡ length (tests o (tableOf o text chair) p)) × Searched o p text chair v)
+      → (n ≡ length (occurrences p (h .text))) × (k ≡ length (tests o (tableOf o (h .text) (h .chair)) p)) × Searched o p (h .text) (h .chair) v
+  loaded-count p v n k f = f (h .text) (h .chair) loaded-in (in-order o w h rules e size)

@@ -1,8 +1,8 @@
 -- The cut at a join: where the pattern stands across it at a cut, that is the one straddling occurrence (`join-hit`); where it does so at
--- no cut that is tried and whose front fits, there is none (`join-miss`). The cuts rise: behind one whose front is too long none fits (`missed-rest`), and before
+-- no cut that is tried and whose front fits, there is none (`join-miss`). The cuts rise: behind one whose front is too long none fits (`sought-all`, `fitting-all`), and before
 -- the first whose tail fits none does, behind it all (`fits-all`, `fit-end`).
 use mathlib.Core.Path.{_≡_, refl, sym, _∙_, ap, ap₂, subst}
-use mathlib.Core.Bool.{Bool, true, false, _&&_}
+use mathlib.Core.Bool.{Bool, true, false, cond, _&&_}
 use mathlib.Core.List.{List, [], _∷_, _++_, List·Memᴰ as In, List·Memᴰ·not-nil as in-nil, List·Memᴰ·eq-of-singleton as in-one}
 use Prim.Native.Nat.{ℕ, zero, suc, _+_, _-_, _/_, _%_, _≤_, _<_, min}
 use native.Mathlib.Omega.{arith}
@@ -14,12 +14,13 @@ use Rattle.definitions.specs.Occurrences.{straddling, straddles, cutAt}
 use Rattle.lists.specs.Bools.{contra, and-left, and-right, and-intro}
 use Rattle.lists.specs.Numbers.{split-le, split-lt, below-in}
 use Rattle.lists.specs.Members.{in-at, at-in, rising-at, in-none}
-use Rattle.lists.specs.Parts.{part, part-at, part-length, part-append, part-part}
+use Rattle.lists.specs.Parts.{part, part-at, part-length, part-append, part-cons, part-none, part-part}
 use Rattle.lists.specs.Strings.{same-eq, eq-same}
 use Rattle.lyndon.specs.Joins.{triedCuts, tried-suffice, tried-rising, straddling-cut, straddling-most, cut-at}
 use Rattle.lyndon.specs.Occurrences.{begins-at, at-begins}
+use Rattle.lyndon.specs.Tests.{fitting, fitting-append, fitting-absent, fitting-one, front-unfit, tail-unfit, both-fit}
 use Rattle.layout.specs.Layout.{PATTERN, CUTS, PACK, WORK}
-use Rattle.joins.specs.Joining.{Tried, longestTail, FitsFrom, cutPlace, JoinCut}
+use Rattle.joins.specs.Joining.{Tried, longestTail, FitsFrom, cutPlace, JoinCut, Packed}
 
 -- ---- lists with at most one member
 
@@ -170,31 +171,26 @@ module _ (w : List ℕ) (m n at left right : ℕ) (t : Tried m n w) (fits : at +
       ∙ part-part at (left + right) i m w h
       ∙ ap (λ (j : ℕ). part j m w) (sym e)
 
-  -- those before the first that fits are passed over
+  -- those before the first whose tail fits are passed over
   pub missed-first : (i : ℕ) → FitsFrom i m n right w → Missed w m at left right i
   missed-first i h j k = simp (lt-leb (m - getD w (CUTS + j) 0) right (h .before j k))
 
-  pub missed-more : (i : ℕ) → Missed w m at left right i → tested w m at left right (getD w (CUTS + i) 0) ≡ false → Missed w m at left right (i + 1)
+  missed-more : (i : ℕ) → Missed w m at left right i → tested w m at left right (getD w (CUTS + i) 0) ≡ false → Missed w m at left right (i + 1)
   missed-more i h e j k = split-lt j i (λ l. h j l) (λ q. subst (λ (d : ℕ). tested w m at left right (getD w (CUTS + d) 0) ≡ false) (sym q) e) (λ l. absurd (omega arith))
 
-  -- so at none that is tried and whose front fits, once all are passed or the next one's front is too long
-  abbrev pub NoneFits : Type 0
+  -- so at none that is tried and whose front fits
+  abbrev NoneFits : Type 0
   NoneFits = (d : ℕ) → In d (triedCuts (part PATTERN m w)) → d ≤ left → tested w m at left right d ≡ false
 
-  none-fits : (i : ℕ) → Missed w m at left right i → ((j : ℕ) → i ≤ j → j < n → left < getD w (CUTS + j) 0) → NoneFits
-  none-fits i h rest d k l =
+  -- once the next one's front is too long
+  missed-rest : (i : ℕ) → left < getD w (CUTS + i) 0 → Missed w m at left right i → NoneFits
+  missed-rest i l h d k f =
       let (j, a, e) = in-at d (triedCuts P) k in
       let b : j < n = omega (arith, count w m n t long) in
       let q : getD w (CUTS + j) 0 ≡ d = entry w m n t long j b ∙ e in
-      split-le i j (λ x. absurd (omega (arith, rest j x b))) (λ x. subst (λ (c : ℕ). tested w m at left right c ≡ false) q (h j x))
+      split-le i j (λ x. absurd (omega (arith, cut-rises w m n t long i j x b))) (λ x. subst (λ (c : ℕ). tested w m at left right c ≡ false) q (h j x))
 
-  pub missed-all : (i : ℕ) → n ≤ i → Missed w m at left right i → NoneFits
-  missed-all i h k = none-fits i k (λ j a b. absurd (omega arith))
-
-  pub missed-rest : (i : ℕ) → i < n → left < getD w (CUTS + i) 0 → Missed w m at left right i → NoneFits
-  missed-rest i h l k = none-fits i k (λ j a b. omega (arith, cut-rises w m n t long i j a b))
-
-  pub join-hit : (c : ℕ) → 0 < c → c < m → c ≤ left → tested w m at left right c ≡ true → JoinCut (part PATTERN m w) (part at left w) (part (at + left) right w) c
+  join-hit : (c : ℕ) → 0 < c → c < m → c ≤ left → tested w m at left right c ≡ true → JoinCut (part PATTERN m w) (part at left w) (part (at + left) right w) c
   unfolding straddling straddles
   join-hit c z k l e =
       record {
@@ -217,7 +213,7 @@ module _ (w : List ℕ) (m n at left right : ℕ) (t : Tried m n w) (fits : at +
           (and-intro (begins P (drop (left - c) (u ++ v))) (ltb (left - c) (length u) && ltb (length u) (left - c + length P)) here-begins
           (and-intro (ltb (left - c) (length u)) (ltb (length u) (left - c + length P)) (lt-ltb (left - c) (length u) (omega (arith, left-size))) (lt-ltb (length u) (left - c + length P) (omega (arith, left-size, size)))))
 
-  pub join-miss : NoneFits → JoinCut (part PATTERN m w) (part at left w) (part (at + left) right w) 0
+  join-miss : NoneFits → JoinCut (part PATTERN m w) (part at left w) (part (at + left) right w) 0
   join-miss h =
       record {
         small = omega (arith, size, t .filled);
@@ -239,14 +235,83 @@ module _ (w : List ℕ) (m n at left right : ℕ) (t : Tried m n w) (fits : at +
   pub join-one : m < 2 → JoinCut (part PATTERN m w) (part at left w) (part (at + left) right w) 0
   join-one h = join-miss (λ d k l. absurd (omega (arith, size, tried-suffice P .cut d k)))
 
--- ---- packed
+-- ---- what is found, cut after cut
 
-module _ {p u v : List ℕ} where
-  pub packed-hit : (n c : ℕ) → 0 < c → c < n → n ≤ 2047 → JoinCut p u v c → JoinCut p u v ((PACK + c) % PACK) × ((PACK + c) / PACK ≡ min 1 ((PACK + c) % PACK))
-  packed-hit n c z h k j =
-      let e : (PACK + c) % PACK ≡ c = omega arith in
-      let d : (PACK + c) / PACK ≡ 1 = omega arith in
-      (subst (JoinCut p u v) (sym e) j, d ∙ omega (arith, e))
+-- nothing is found at the first i cuts, or what is found is the occurrence across the join
+pub data Sought (w : List ℕ) (m at left right i x : ℕ) : Type 0 where
+  nowhere : x ≡ 0 → Missed w m at left right i → Sought w m at left right i x
+  here : Packed (part PATTERN m w) (part at left w) (part (at + left) right w) x → Sought w m at left right i x
 
-  pub packed-miss : JoinCut p u v 0 → JoinCut p u v (0 % PACK) × (0 / PACK ≡ min 1 (0 % PACK))
-  packed-miss j = (j, refl)
+module _ (w : List ℕ) (m n at left right : ℕ) (t : Tried m n w) (fits : at + left + right ≤ 2048) (long : WORK ≤ length w) where
+  packed-miss : (x : ℕ) → x ≡ 0 → JoinCut (part PATTERN m w) (part at left w) (part (at + left) right w) 0
+      → Packed (part PATTERN m w) (part at left w) (part (at + left) right w) x
+  packed-miss x e j =
+      let a : x % PACK ≡ 0 = omega arith in
+      let b : x / PACK ≡ 0 = omega arith in
+      record { cut = subst (JoinCut (part PATTERN m w) (part at left w) (part (at + left) right w)) (sym a) j; number = omega arith }
+
+  packed-hit : (c : ℕ) → 0 < c → c < m → JoinCut (part PATTERN m w) (part at left w) (part (at + left) right w) c
+      → Packed (part PATTERN m w) (part at left w) (part (at + left) right w) (PACK + c)
+  packed-hit c z h j =
+      let a : (PACK + c) % PACK ≡ c = omega (arith, t .short) in
+      let b : (PACK + c) / PACK ≡ 1 = omega (arith, t .short) in
+      record { cut = subst (JoinCut (part PATTERN m w) (part at left w) (part (at + left) right w)) (sym a) j; number = b ∙ omega (arith, a) }
+
+  -- the cut c, number i, is tested, and both parts fit
+  pub sought-more : (i c x y : ℕ) → i < n → c ≡ getD w (CUTS + i) 0 → c ≤ left → m - c ≤ right → Sought w m at left right i x
+      → y ≡ cond (same (part (at + left - c) m w) (part PATTERN m w)) (PACK + c) x → Sought w m at left right (i + 1) y
+  sought-more i c x y l e f k s q = go (same (part (at + left - c) m w) (part PATTERN m w)) refl s
+    where
+      fit : (b : Bool) → same (part (at + left - c) m w) (part PATTERN m w) ≡ b → tested w m at left right c ≡ b
+      fit b d = rw (le-leb (m - c) right k) d
+
+      go : (b : Bool) → same (part (at + left - c) m w) (part PATTERN m w) ≡ b → Sought w m at left right i x → Sought w m at left right (i + 1) y
+      go true d z =
+          let (a, b) = cut-range w m n t long i l in
+          let p : y ≡ PACK + c = rw d at q in
+          here
+          (subst (Packed (part PATTERN m w) (part at left w) (part (at + left) right w)) (sym p)
+          (packed-hit c (omega arith) (omega arith) (join-hit w m n at left right t fits long c (omega arith) (omega arith) f (fit true d))))
+      go false d (nowhere o h) =
+          let p : y ≡ x = rw d at q in
+          nowhere (p ∙ o) (missed-more w m n at left right t fits long i h (subst (λ (z : ℕ). tested w m at left right z ≡ false) e (fit false d)))
+      go false d (here h) =
+          let p : y ≡ x = rw d at q in
+          here (subst (Packed (part PATTERN m w) (part at left w) (part (at + left) right w)) (sym p) h)
+
+  -- the front of the next one is too long
+  pub sought-all : (i x : ℕ) → left < getD w (CUTS + i) 0 → Sought w m at left right i x → Packed (part PATTERN m w) (part at left w) (part (at + left) right w) x
+  sought-all i x l (nowhere o h) = packed-miss x o (join-miss w m n at left right t fits long (missed-rest w m n at left right t fits long i l h))
+  sought-all i x l (here h) = h
+
+  -- NO_CUT is longer than every front
+  pub cut-inside : (i : ℕ) → i ≤ n → getD w (CUTS + i) 0 ≤ left → i < n
+  cut-inside i h l = split-lt i n (λ x. x) (λ x. absurd (omega (arith, t .end, ap (λ (k : ℕ). getD w (CUTS + k) 0) x))) (λ x. absurd (omega arith))
+
+  -- ---- how many of the first i cuts fit
+  pub fitting-start : (i : ℕ) → FitsFrom i m n right w → fitting m left right (part CUTS i w) ≡ 0
+  fitting-start i h =
+      fitting-absent m left right (part CUTS i w)
+      (λ j k. let l : j < i = omega (arith, part-length CUTS i w (omega (arith, h .most, t .few))) in
+      tail-unfit m left right (getD (part CUTS i w) j 0) (omega (arith, part-at CUTS i w j 0 l, h .before j l)))
+
+  pub fitting-more : (i : ℕ) → i < n → getD w (CUTS + i) 0 ≤ left → m - getD w (CUTS + i) 0 ≤ right
+      → fitting m left right (part CUTS (i + 1) w) ≡ fitting m left right (part CUTS i w) + 1
+  fitting-more i l f k =
+      ap (fitting m left right) (part-append CUTS i 1 w ∙ ap (λ (x : List ℕ). part CUTS i w ++ x) (part-cons (CUTS + i) 0 w 0 (omega (arith, t .few)) ∙ ap (λ (x : List ℕ). getD w (CUTS + i) 0 ∷ x) (part-none (suc (CUTS + i)) w)))
+      ∙ fitting-append m left right (part CUTS i w) (getD w (CUTS + i) 0 ∷ [])
+      ∙ ap (λ (k : ℕ). fitting m left right (part CUTS i w) + k) (fitting-one m left right (getD w (CUTS + i) 0) (both-fit m left right (getD w (CUTS + i) 0) f k))
+
+  pub fitting-all : (i : ℕ) → i ≤ n → left < getD w (CUTS + i) 0 → fitting m left right (part CUTS n w) ≡ fitting m left right (part CUTS i w)
+  fitting-all i h l =
+      let e : i + (n - i) ≡ n = omega arith in
+      let rest = part (CUTS + i) (n - i) w in
+      let size : length rest ≡ n - i = part-length (CUTS + i) (n - i) w (omega (arith, t .few)) in
+      let none = fitting-absent m left right rest
+      (λ j k. let b : j < n - i = omega arith in
+      let q : getD w (CUTS + i + j) 0 ≡ getD w (CUTS + (i + j)) 0 = ap (λ (x : ℕ). getD w x 0) (omega arith) in
+      front-unfit m left right (getD rest j 0) (omega (arith, part-at (CUTS + i) (n - i) w j 0 b, q, cut-rises w m n t long i (i + j) (omega arith) (omega arith)))) in
+      ap (λ (k : ℕ). fitting m left right (part CUTS k w)) (sym e)
+      ∙ ap (fitting m left right) (part-append CUTS i (n - i) w)
+      ∙ fitting-append m left right (part CUTS i w) rest
+      ∙ omega (arith, none)

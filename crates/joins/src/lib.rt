@@ -7,12 +7,14 @@ use layout::PATTERN;
 use slices::equal;
 use slices::wide;
 ghost use mathlib.Core.Path.{_≡_};
-ghost use Prim.Native.Nat.{_+_, _-_, _/_, _%_, _≤_, _<_, min};
+ghost use mathlib.Core.Bool.{cond};
+ghost use Prim.Native.Nat.{_+_, _-_, _≤_, _<_};
 ghost use lib.ListN.{length};
 ghost use Rattle.definitions.specs.Words.{same};
 ghost use Rattle.lists.specs.Parts.{part};
-ghost use Rattle.layout.specs.Layout.{PATTERN, PACK, WORK};
-ghost use Rattle.joins.specs.Joining.{Tried, longestTail, FitsFrom, JoinCut};
+ghost use Rattle.lyndon.specs.Tests.{fitting};
+ghost use Rattle.layout.specs.Layout.{PATTERN, CUTS, PACK, WORK};
+ghost use Rattle.joins.specs.Joining.{Tried, Fitting, longestTail, FitsFrom, Packed};
 
 // The longest tail of the pattern's n listed cuts, 0 if it has none. The cuts rise, so it is that of the first.
 pub fn longest_tail(work: &[u32], m: usize, n: usize) -> usize
@@ -25,9 +27,15 @@ pub fn longest_tail(work: &[u32], m: usize, n: usize) -> usize
     m - wide(work[CUTS])
 }
 
-// PACK and the cut at which the pattern, m samples, straddles the join of two such strings, 0 if it does not. Its n listed cuts are tried upwards, where
-// both parts of the pattern fit; they rise, so behind one whose front is too long none fits. At most one occurrence straddles.
-pub fn cut_at_join(
+// What is found at a join, as it stands in FOUND, and how many tests are made up to there.
+pub struct Tested {
+    pub found: u32,
+    pub tests: usize,
+}
+
+// Tests the join of two such strings, behind so many tests at other joins: the pattern, m samples, is compared at each of its n listed cuts where both parts of it
+// fit. These stand together in the list, since the cuts rise. At most one occurrence straddles; the cuts behind it are tested all the same, since tests are reported.
+pub fn test_join(
     work: &[u32],
     m: usize,
     n: usize,
@@ -35,23 +43,53 @@ pub fn cut_at_join(
     at: usize,
     left: usize,
     right: usize,
-) -> u32
-    requires { ⌜ Tried m n (now work) × (longest ≡ longestTail m n (now work)) × (at + left + right ≤ 2048) × (WORK ≤ length (now work)) ⌝ }
-    ensures { λ x. ⌜ JoinCut (part PATTERN m (now (work .entry))) (part at left (now (work .entry))) (part (at + left) right (now (work .entry))) (x % PACK) × (x / PACK ≡ min 1 (x % PACK)) ⌝ }
+    before: usize,
+) -> Tested
+    requires { ⌜ Tried m n (now work) × (longest ≡ longestTail m n (now work)) × (at + left + right ≤ 2048) × (WORK ≤ length (now work)) × (before ≤ 65535) ⌝ }
+    ensures { λ x. ⌜ Packed (part PATTERN m (now (work .entry))) (part at left (now (work .entry))) (part (at + left) right (now (work .entry))) (x .found) × (x .tests ≡ before + fitting m left right (part CUTS n (now (work .entry)))) ⌝ }
 {
     let join = at + left;
     let mut i = first_fitting(work, m, n, longest, right);
-    while i < n {
-        let c = wide(work[CUTS + i]);
-        if left < c {
-            return 0;
-        }
-        if straddles(work, m, c, join) {
-            return PACK + c as u32;
-        }
+    let mut tested = Tested {
+        found: 0,
+        tests: before,
+    };
+    while wide(work[CUTS + i]) <= left {
+        tested = test_cut(work, m, work[CUTS + i], join, tested);
         i += 1;
     }
-    0
+    tested
+}
+
+// Tests one cut more at a join, where both parts of the pattern fit: the pattern is compared there, and the test is counted. What is found is PACK and the cut, if the pattern
+// straddles the join there, else what it was.
+fn test_cut(work: &[u32], m: usize, c: u32, join: usize, before: Tested) -> Tested
+    requires { ⌜ Fitting m c join × (WORK ≤ length (now work)) × (before .tests ≤ 65546) ⌝ }
+    ensures { λ x. ⌜ (x .found ≡ cond (same (part (join - c) m (now (work .entry))) (part PATTERN m (now (work .entry)))) (PACK + c) (before .found)) × (x .tests ≡ before .tests + 1) ⌝ }
+{
+    if !straddles(work, m, wide(c), join) {
+        return Tested {
+            found: before.found,
+            tests: before.tests + 1,
+        };
+    }
+    Tested {
+        found: PACK + c,
+        tests: before.tests + 1,
+    }
+}
+
+// Whether the pattern, m samples, straddles a join at cut c, where both parts fit. The sample before the cut is compared first: behind an occurrence it most often
+// shows that there is no other.
+fn straddles(work: &[u32], m: usize, c: usize, join: usize) -> bool
+    requires { ⌜ Fitting m c join × (WORK ≤ length (now work)) ⌝ }
+    ensures { λ b. ⌜ b ≡ same (part (join - c) m (now (work .entry))) (part PATTERN m (now (work .entry))) ⌝ }
+{
+    if work[join - 1] != work[PATTERN + c - 1] {
+        return false;
+    }
+    let at = join - c;
+    equal(&work[at..at + m], &work[PATTERN..PATTERN + m])
 }
 
 // The index of the first listed cut whose tail has at most `right` samples; from there on all have. Where not all fit, it is sought from the end: each tail is
@@ -69,13 +107,4 @@ fn first_fitting(work: &[u32], m: usize, n: usize, longest: usize, right: usize)
         i -= 1;
     }
     i
-}
-
-// Whether the pattern, m samples, straddles a join at cut c, where both parts fit.
-fn straddles(work: &[u32], m: usize, c: usize, join: usize) -> bool
-    requires { ⌜ (c < m) × (m ≤ 2047) × (c ≤ join) × (join + (m - c) ≤ 2048) × (WORK ≤ length (now work)) ⌝ }
-    ensures { λ b. ⌜ b ≡ same (part (join - c) m (now (work .entry))) (part PATTERN m (now (work .entry))) ⌝ }
-{
-    let at = join - c;
-    equal(&work[at..at + m], &work[PATTERN..PATTERN + m])
 }

@@ -39,6 +39,10 @@ PATTERN = 8960
 abbrev pub CUTS : ℕ
 CUTS = 11008
 
+-- what stands behind the last cut
+abbrev pub NO_CUT : ℕ
+NO_CUT = 4096
+
 abbrev pub WORK : ℕ
 WORK = 16384
 

@@ -30,7 +30,7 @@
 //     PLACES    4352   a place at which it stands            2304
 //     FOUND     6656   its occurrences * PACK + its join's cut  2304
 //     PATTERN   8960   ranks of the pattern                  2048
-//     CUTS      11008  its listed cuts                       11
+//     CUTS      11008  its listed cuts, then NO_CUT          12
 //     TABLE     11520  the table                             4608
 pub const LONGEST: usize = 2048;
 
@@ -62,6 +62,9 @@ pub const PACK: u32 = 4096;
 pub const PATTERN: usize = 8960;
 
 pub const CUTS: usize = 11008;
+// What stands behind the last cut: no string is so long.
+pub const NO_CUT: u32 = 4096;
+
 // The words of the work slice that the services use.
 pub const WORK: usize = 16384;
 

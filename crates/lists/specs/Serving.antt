@@ -1,5 +1,6 @@
 -- Calls that serve, by the check that decides: refused by one of the checks (`refused-by`, `refused-front`), or decided by those behind them (`passed`),
--- in the end by none (`served`; back: `done-passed`, `done-served`). A work slice that is cleared can be lent besides (`worked`), and an answer stated otherwise (`restated`, `said`).
+-- in the end by none (`served`; back: `done-passed`, `done-served`). A work slice that is cleared can be lent besides (`worked`), and an answer stated otherwise (`restated`, `said`),
+-- or without the number beside the one that success gives (`alone`).
 use mathlib.Core.Path.{_≡_, refl, sym, _∙_, ap, ap₂, subst}
 use mathlib.Core.Bool.{Bool, true, false, cond}
 use mathlib.Core.Logic.{_⊎_, inl, inr}
@@ -8,7 +9,8 @@ use Prim.Native.Nat.{ℕ}
 use native.Mathlib.Omega.{arith}
 use Rattle.definitions.specs.declared.Answer.{Answer}
 use Rattle.definitions.specs.declared.Answer.the-variants.{Refused}
-use Rattle.definitions.specs.Services.{Outcome, done, refused, outcomeOf, Check, Lent, workSlice, Service, firstMet, outcome, slicesAfter, cleared, Serves, Answers}
+use Rattle.definitions.specs.declared.Search.{Search}
+use Rattle.definitions.specs.Services.{Outcome, done, refused, outcomeOf, searchOf, Check, Lent, workSlice, Service, firstMet, outcome, slicesAfter, cleared, Serves, Answers}
 use Rattle.lists.specs.Decisions.{First, met, later, Passed, decide, first-decides, passed-all, passed-front, first-before, answered, refused-some}
 
 abbrev pub by : List Check → Outcome → List Lent → Service
@@ -92,6 +94,36 @@ restated {checks} {success} {other} {lent} {A} {B} {held} f g v = record { answe
     go (inr p) =
         subst B (sym (passed-all (λ c. refused (c .number) (c .place)) other p))
         (g (subst A (passed-all (λ c. refused (c .number) (c .place)) success p) (v .answer)))
+
+-- ---- the number beside the one that success gives, left out
+
+unfoldable pub alone : Outcome → Outcome
+alone (done n beside) = done n 0
+alone (refused number place) = refused number place
+
+-- what the answer of a search stands for
+pub search-alone : (s : Search) (o : Outcome) → s ≡ searchOf o → outcomeOf (s .answer) ≡ alone o
+unfolding outcomeOf searchOf alone
+search-alone s (done n tests) e = ap (λ (x : Search). outcomeOf (x .answer)) e
+search-alone s (refused number place) e = ap (λ (x : Search). outcomeOf (x .answer)) e
+
+abbrev refusal : Check → Outcome
+refusal c = refused (c .number) (c .place)
+
+alone-first : (checks : List Check) (success : Outcome) → alone (firstMet checks refusal success) ≡ firstMet checks refusal (alone success)
+unfolding alone firstMet
+alone-first [] success = refl
+alone-first (c ∷ checks) success = go (c .met) (alone-first checks success)
+  where
+    go : (b : Bool) → alone (firstMet checks refusal success) ≡ firstMet checks refusal (alone success)
+        → alone (cond b (refusal c) (firstMet checks refusal success)) ≡ cond b (refusal c) (firstMet checks refusal (alone success))
+    go true e = refl
+    go false e = e
+
+pub alone-alike : (s z : Service) → firstMet (s .checks) refusal (alone (s .success)) ≡ firstMet (z .checks) refusal (alone (z .success))
+    → alone (outcome s) ≡ alone (outcome z)
+unfolding outcome
+alone-alike s z e = alone-first (s .checks) (s .success) ∙ e ∙ sym (alone-first (z .checks) (z .success))
 
 -- ---- which checks clear the work slice: all of them, or none
 

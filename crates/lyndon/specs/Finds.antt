@@ -1,5 +1,5 @@
 -- Demand 3 of the services' definitions: for an accepted table, a pattern of 1 to 2,047 samples and slices that are long enough, locating is done (`located`),
--- and the entries that it answers for are the list of all occurrences, whatever the slices held; counting alone answers that list's length (`returned`). Pair rules: Pairs.antt.
+-- and the entries that it answers for are the list of all occurrences, whatever the slices held; counting alone answers that list's length, and the same tests (`returned`). Pair rules: Pairs.antt.
 -- Likewise the list of a pattern's cuts (`cuts-returned`).
 use mathlib.Core.Path.{_≡_, _∙_, ap, ap₂, subst, sym}
 use mathlib.Core.Logic.{_↔_}
@@ -11,11 +11,12 @@ use lib.Seq.{take-append-seam}
 use borrow.Author.Tests.{le-ltb, ne-eqb}
 use Rattle.definitions.specs.declared.Order.{Order}
 use Rattle.definitions.specs.declared.Answer.{Answer}
+use Rattle.definitions.specs.declared.Answer.the-variants.{Done}
 use Rattle.definitions.specs.declared.Search.{Search}
 use Rattle.definitions.specs.Words.{placed}
 use Rattle.definitions.specs.Table.{rankOf, textOf}
-use Rattle.definitions.specs.Occurrences.{occurrences, listedCuts, patternCuts}
-use Rattle.definitions.specs.Services.{done, outcomeOf, firstMet, cleared, outcome, slicesAfter, searchOutcome, Serves, Answers, Searches, tableChecks, patternChecks, countService, locateService, cutsService}
+use Rattle.definitions.specs.Occurrences.{occurrences, listedCuts, patternCuts, tests}
+use Rattle.definitions.specs.Services.{done, outcomeOf, firstMet, cleared, outcome, slicesAfter, searchOf, Serves, Answers, Searches, tableChecks, patternChecks, countService, locateService, cutsService}
 use Rattle.lists.specs.Numbers.{Rising}
 use Rattle.lyndon.specs.Stored.{Acceptable}
 use Rattle.lyndon.specs.Cuts.{Live}
@@ -55,14 +56,17 @@ module _ (o : Order) (t p work : List ℕ) (accepted : Acceptable o t) (filled :
   abbrev finds : List ℕ
   finds = occurrences p (textOf o t)
 
-  pub counted : outcome (countService o t p work) ≡ done (length finds) 0
+  abbrev made : ℕ
+  made = length (tests o t p)
+
+  pub counted : outcome (countService o t p work) ≡ done (length finds) made
   unfolding outcome countService patternChecks tableChecks firstMet
   counted =
       rw (ne-eqb (length p) 0 (λ e. omega arith), le-ltb 2047 (length p) short, le-ltb (length work) 16384 long, accepted .0, accepted .1, accepted .2)
 
   -- with room for the list in the result slice
   module _ (result : List ℕ) (room : length finds ≤ length result) where
-    pub located : outcome (locateService o t p work result) ≡ done (length finds) 0
+    pub located : outcome (locateService o t p work result) ≡ done (length finds) made
     unfolding outcome locateService patternChecks tableChecks firstMet
     located =
         rw (ne-eqb (length p) 0 (λ e. omega arith), le-ltb 2047 (length p) short, le-ltb (length work) 16384 long, accepted .0, accepted .1, accepted .2, le-ltb (length result) (length finds) room)
@@ -74,13 +78,16 @@ module _ (o : Order) (t p work : List ℕ) (accepted : Acceptable o t) (filled :
         rw (ne-eqb (length p) 0 (λ e. omega arith), le-ltb 2047 (length p) short, le-ltb (length work) 16384 long, accepted .0, accepted .1, accepted .2, le-ltb (length result) (length finds) room)
 
     -- of every call that serves and answers k
-    pub returned : (r : Search) {work′ result′ : List ℕ} (k : ℕ) → Serves (locateService o t p work result) (Searches r) (work′ ∷ result′ ∷ []) → searchOutcome r ≡ done k 0
-        → AllOccurrences p (textOf o t) (take k result′) × (length (take k result′) ≡ k) × (outcome (countService o t p work) ≡ done k 0)
+    pub returned : (r : Search) {work′ result′ : List ℕ} (k : ℕ) → Serves (locateService o t p work result) (Searches r) (work′ ∷ result′ ∷ []) → r .answer ≡ Done k
+        → AllOccurrences p (textOf o t) (take k result′) × (length (take k result′) ≡ k) × (r .tests ≡ made) × (outcome (countService o t p work) ≡ done k made)
+    unfolding searchOf
     returned r {work′} {result′} k v e =
-        let q : length finds ≡ k = same-number (length finds) k (sym (v .answer ∙ located) ∙ e) in
+        let s : r ≡ searchOf (done (length finds) made) = v .answer ∙ ap searchOf located in
+        let d : Done (length finds) ≡ Done k = sym (ap (λ (x : Search). x .answer) s) ∙ e in
+        let q : length finds ≡ k = cc in
         let held : result′ ≡ finds ++ drop (length finds) result = ap (λ (l : List (List ℕ)). getD l 1 []) (v .slices ∙ written) in
         let g : take k result′ ≡ finds = ap₂ {C = List ℕ} take (sym q) held ∙ take-append-seam finds (drop (length finds) result) in
-        (subst (AllOccurrences p (textOf o t)) (sym g) (listed p (textOf o t)), ap length g ∙ q, counted ∙ ap (λ (m : ℕ). done m 0) q)
+        (subst (AllOccurrences p (textOf o t)) (sym g) (listed p (textOf o t)), ap length g ∙ q, ap (λ (x : Search). x .tests) s, counted ∙ ap (λ (m : ℕ). done m made) q)
 
 -- ---- the cuts of a pattern
 

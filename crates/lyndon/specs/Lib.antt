@@ -10,6 +10,7 @@ pub mod Closings
 pub mod Ranks
 pub mod Encoding
 pub mod Tables
+pub mod Tests
 pub mod Stored
 pub mod Occurrences
 pub mod Cuts
@@ -18,6 +19,7 @@ pub mod Listed
 pub mod Joins
 pub mod Pairs
 pub mod Shapes
+pub mod Windows
 pub mod Back
 pub mod Finds
 pub mod Arrays

@@ -21,7 +21,7 @@ use Rattle.lists.specs.Numbers.{split-le, split-lt, every-at, every-all}
 use Rattle.lists.specs.Lists.{Overlap, within, across, overlap, placed-front}
 use Rattle.lists.specs.Members.{in-map}
 use Rattle.lists.specs.Decisions.{First, met, later, Passed, none, first-decides, first-before, passed-front}
-use Rattle.lists.specs.Serving.{done-served}
+use Rattle.lists.specs.Serving.{done-served, alone, alone-alike}
 use Rattle.lyndon.specs.Lexical.{Lt}
 use Rattle.lyndon.specs.Factorization.{Std}
 use Rattle.lyndon.specs.Ranks.{Bytes, rank-range, number-of-rank, bytes-back}
@@ -381,6 +381,10 @@ module _ (t : List ℕ) (a : isTable formerOrder t ≡ true) where
 abbrev pub Alike : Service → Service → Type 0
 Alike s z = (outcome s ≡ outcome z) × (slicesAfter s ≡ slicesAfter z)
 
+-- two searches that find the same and leave the same in the lent slices; their tests may differ, for another order has other pair rules and other cuts
+abbrev pub FindAlike : Service → Service → Type 0
+FindAlike s z = (alone (outcome s) ≡ alone (outcome z)) × (slicesAfter s ≡ slicesAfter z)
+
 -- a table that passes by o and one that passes by p, with the same drive: what speaks of the drive alone answers alike, whatever is lent
 module _ (o p : Order) (t u : List ℕ) (h : Acceptable o t) (k : Acceptable p u) (e : textOf p u ≡ textOf o t) where
   alike-read : chairOf u ≡ chairOf t → (work result : List ℕ) → Alike (readService p u work result) (readService o t work result)
@@ -391,13 +395,19 @@ module _ (o p : Order) (t u : List ℕ) (h : Acceptable o t) (k : Acceptable p u
   unfolding outcome slicesAfter extractService tableChecks firstMet
   alike-extract start count work result = (rw (h .0, h .1, h .2, k .0, k .1, k .2, e), rw (h .0, h .1, h .2, k .0, k .1, k .2, e))
 
-  alike-count : (pattern work : List ℕ) → Alike (countService p u pattern work) (countService o t pattern work)
-  unfolding outcome slicesAfter countService patternChecks tableChecks firstMet
-  alike-count pattern work = (rw (h .0, h .1, h .2, k .0, k .1, k .2, e), rw (h .0, h .1, h .2, k .0, k .1, k .2))
+  alike-count : (pattern work : List ℕ) → FindAlike (countService p u pattern work) (countService o t pattern work)
+  unfolding slicesAfter countService patternChecks tableChecks firstMet alone
+  alike-count pattern work = (
+    alone-alike (countService p u pattern work) (countService o t pattern work) (rw (h .0, h .1, h .2, k .0, k .1, k .2, e)),
+    rw (h .0, h .1, h .2, k .0, k .1, k .2),
+  )
 
-  alike-locate : (pattern work result : List ℕ) → Alike (locateService p u pattern work result) (locateService o t pattern work result)
-  unfolding outcome slicesAfter locateService patternChecks tableChecks firstMet
-  alike-locate pattern work result = (rw (h .0, h .1, h .2, k .0, k .1, k .2, e), rw (h .0, h .1, h .2, k .0, k .1, k .2, e))
+  alike-locate : (pattern work result : List ℕ) → FindAlike (locateService p u pattern work result) (locateService o t pattern work result)
+  unfolding slicesAfter locateService patternChecks tableChecks firstMet alone
+  alike-locate pattern work result = (
+    alone-alike (locateService p u pattern work result) (locateService o t pattern work result) (rw (h .0, h .1, h .2, k .0, k .1, k .2, e)),
+    rw (h .0, h .1, h .2, k .0, k .1, k .2, e),
+  )
 
 -- what is promised of the words u that converting the table t from order o to order p returns
 pub record Converted (o p : Order) (t u : List ℕ) : Type 0 where
@@ -410,11 +420,11 @@ pub record Converted (o p : Order) (t u : List ℕ) : Type 0 where
   pub read : (work : List ℕ) → 16384 ≤ length work → (result : List ℕ) → length (textOf o t) ≤ length result
       → (outcome (readService p u work result) ≡ done (length (textOf o t)) (chairOf t))
       × (slicesAfter (readService p u work result) ≡ cleared work ∷ placed (textOf o t) result ∷ [])
-  -- whatever is lent, reading by p answers of u what reading by o answers of t, and so do extracting, counting and locating
+  -- whatever is lent, reading by p answers of u what reading by o answers of t, and so does extracting; counting and locating find the same
   pub reads : (work result : List ℕ) → Alike (readService p u work result) (readService o t work result)
   pub extracts : (start count : ℕ) (work result : List ℕ) → Alike (extractService p u start count work result) (extractService o t start count work result)
-  pub counts : (pattern work : List ℕ) → Alike (countService p u pattern work) (countService o t pattern work)
-  pub locates : (pattern work result : List ℕ) → Alike (locateService p u pattern work result) (locateService o t pattern work result)
+  pub counts : (pattern work : List ℕ) → FindAlike (countService p u pattern work) (countService o t pattern work)
+  pub locates : (pattern work result : List ℕ) → FindAlike (locateService p u pattern work result) (locateService o t pattern work result)
 
 converted : (o p : Order) (t : List ℕ) → Acceptable o t → Converted o p t (tableOf p (textOf o t) (chairOf t))
 converted o p t h =

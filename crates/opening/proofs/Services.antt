@@ -9,10 +9,11 @@ use Rattle.definitions.specs.declared.Order.{Order}
 use Rattle.definitions.specs.declared.Answer.{Answer}
 use Rattle.definitions.specs.declared.Answer.the-variants.{Done, Refused}
 use Rattle.definitions.specs.Words.{placed}
-use Rattle.definitions.specs.Table.{textOf, chairOf}
+use Rattle.definitions.specs.Table.{tableOf, textOf, chairOf}
 use Rattle.definitions.specs.Services.{Outcome, Check, Lent, workSlice, cleared, tableChecks, Serves}
 use Rattle.lists.specs.Decisions.{Passed, first-before}
 use Rattle.lists.specs.Serving.{by, Refuses, refused-by}
+use Rattle.lyndon.specs.Stored.{accepted-table}
 use Rattle.layout.specs.Layout.{WORK}
 use Rattle.state.specs.State.{Ready, rulesLoaded}
 use Rattle.opening.specs.Opening.{Opened, Admitted, turned-down, opened}
@@ -21,6 +22,10 @@ module _ {o : Order} {t work held : List ℕ} where
   -- what is opened is ready to be read
   unfoldable pub ready : Opened o t work held → Ready (take WORK held)
   ready p = record { order = o; text = textOf o t; chair = chairOf t; loaded = p .loaded }
+
+  -- its table is the one that was handed over
+  pub opened-table : Opened o t work held → tableOf o (textOf o t) (chairOf t) ≡ t
+  opened-table p = accepted-table o t (p .accepted)
 
   pub opened-cleared : Opened o t work held → cleared held ≡ cleared work
   unfolding cleared placed

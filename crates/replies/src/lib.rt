@@ -4,8 +4,10 @@ use definitions::ReadAnswer;
 use definitions::Reply;
 use definitions::Search;
 use definitions::SearchReply;
-ghost use Rattle.definitions.specs.Services.{done, refused, outcomeOf, readOutcome, searchOutcome};
-ghost use Rattle.definitions.specs.Replies.{Replies, SearchReplies};
+ghost use mathlib.Core.Path.{_≡_};
+ghost use Rattle.definitions.specs.Services.{done, refused, outcomeOf, readOutcome};
+ghost use Rattle.definitions.specs.Replies.{Replies};
+ghost use Rattle.replies.specs.Searches.{searchReply};
 
 // An answer as a struct.
 pub fn replied(a: Answer) -> Reply
@@ -27,9 +29,9 @@ pub fn replied_read(a: ReadAnswer) -> Reply
     }
 }
 
-// An answer to counting or locating as a struct.
+// An answer to counting or locating as a struct: that of the answer, and the tests.
 pub fn replied_search(s: Search) -> SearchReply
-    ensures { λ r. ⌜ SearchReplies r (searchOutcome s) ⌝ }
+    ensures { λ r. ⌜ r ≡ searchReply s ⌝ }
 {
     let a = s.answer;
     let r = replied(a);
@@ -38,6 +40,7 @@ pub fn replied_search(s: Search) -> SearchReply
         chair: r.chair,
         place: r.place,
         count: r.count,
+        tests: s.tests as u64,
     }
 }
 

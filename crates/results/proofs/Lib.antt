@@ -1,2 +1,2 @@
-pub mod Chairs
+pub mod Answers
 pub mod Writing

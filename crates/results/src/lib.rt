@@ -1,11 +1,12 @@
-// The checks of what is asked for and written, each a small function that answers its refusal or goes on with what was accepted; and the answer to
-// reading a table back, which has a chair number.
+// The checks of what is asked for and written, each a small function that answers its refusal or goes on with what was accepted; and the answers to
+// reading a table back, which has a chair number, and to a search, which has the number of its tests.
 use definitions::Answer;
 use definitions::ReadAnswer;
+use definitions::Search;
 ghost use mathlib.Core.Path.{_≡_};
 ghost use Rattle.definitions.specs.Services.{resultTooShort, rangePastEnd};
 ghost use Rattle.lists.specs.Decisions.{checked};
-ghost use Rattle.results.specs.Results.{withChair};
+ghost use Rattle.results.specs.Results.{withChair, withTests};
 
 // Refusal 9 of a result slice of n entries, or the entries needed.
 pub fn result_fits(needed: usize, n: usize) -> Answer
@@ -38,5 +39,21 @@ pub fn with_chair(a: Answer, chair: u16) -> ReadAnswer
     match a {
         Answer::Done(n) => ReadAnswer::Done(n, chair),
         Answer::Refused(number, place) => ReadAnswer::Refused(number, place),
+    }
+}
+
+// The answer to a search: success has the number of its tests with it, a refusal has 0.
+pub fn with_tests(a: Answer, tests: usize) -> Search
+    ensures { λ r. ⌜ r ≡ withTests a tests ⌝ }
+{
+    match a {
+        Answer::Done(n) => Search {
+            answer: Answer::Done(n),
+            tests: tests,
+        },
+        Answer::Refused(number, place) => Search {
+            answer: Answer::Refused(number, place),
+            tests: 0,
+        },
     }
 }

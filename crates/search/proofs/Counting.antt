@@ -1,32 +1,33 @@
 -- What is found in a symbol rule is one comparison (`symbol-found`); in a pair rule it is what its halves have, and one
--- more where its join has a cut (`pair-occurs`, `pair-found`). Storing it changes nothing that was counted, so one rule more is (`counted-more`).
+-- more where its join has a cut (`pair-occurs`, `pair-found`); its tests are the cuts that fit (`pair-tests`). Storing it changes nothing that was counted, so one rule more is (`counted-more`).
 use mathlib.Core.Path.{_≡_, refl, sym, _∙_, ap, subst}
 use mathlib.Core.Bool.{Bool, true, false, cond, _&&_}
 use mathlib.Core.List.{List, [], _∷_, _++_, map}
-use Prim.Native.Nat.{ℕ, _+_, _/_, _%_, _≤_, _<_, min}
+use Prim.Native.Nat.{ℕ, zero, suc, _+_, _*_, _/_, _%_, _≤_, _<_, min}
 use native.Mathlib.Omega.{arith}
-use lib.ListN.{length, getD, set, length-append, length-map, length-set}
-use lib.Seq.{getD-set-same, getD-set-other, take-set-le, drop-set-lt}
+use lib.ListN.{length, getD, set, length-append, length-map}
+use lib.Seq.{getD-set-same, getD-set-other}
 use lib.Dec.{eqb}
 use Rattle.definitions.specs.declared.Order.{Order}
 use Rattle.definitions.specs.Words.{below, begins}
 use Rattle.definitions.specs.Table.{rankOf, tableOf, ruleString, leftHalf, rightHalf, ruleCount}
-use Rattle.definitions.specs.Occurrences.{occurrences, straddling}
+use Rattle.definitions.specs.Occurrences.{occurrences, straddling, patternCuts, testsOf, testsBelow, tests}
 use Rattle.lists.specs.Bools.{contra}
 use Rattle.lists.specs.Numbers.{split-lt}
-use Rattle.lists.specs.Parts.{part, part-at, part-set-before}
+use Rattle.lists.specs.Parts.{part, part-at, part-length, part-set-before}
 use Rattle.lyndon.specs.Joins.{triedCuts, occurrences-join}
 use Rattle.lyndon.specs.Occurrences.{occurrences-most}
 use Rattle.lyndon.specs.Stored.{rule-range}
-use Rattle.layout.specs.Layout.{TABLE, FOUND, PATTERN, CUTS, PACK, Readable, lengthIn, placeIn, countIn}
+use Rattle.lyndon.specs.Tests.{fitting, tests-pair, tests-more, rule-few}
+use Rattle.layout.specs.Layout.{FOUND, PATTERN, CUTS, PACK, Readable, lengthIn, placeIn, countIn, joinCutIn}
 use Rattle.decoding.specs.declared.Rule.the-variants.{Pair}
 use Rattle.decoding.specs.Decoding.{ruleIn}
 use Rattle.lyndon.specs.Ruled.{SymbolOf, PairOf}
 use Rattle.joins.specs.Joining.{longestTail, cutPlace, JoinCut}
 use Rattle.joins.proofs.Joining.{cut-place-size}
 use Rattle.search.specs.Found.{occursIn, acrossJoin, FoundIn}
-use Rattle.search.specs.Searching.{Counting, CountedBefore, SymbolTurn, FoundFor}
-use Rattle.search.proofs.Standing.{PlacedHalves, placed-symbol, rule-stands, pair-stands, Outside, placed-outside}
+use Rattle.search.specs.Searching.{Counting, Counts, CountedBefore, SymbolTurn, FoundFor, testsFor}
+use Rattle.search.proofs.Standing.{PlacedHalves, placed-symbol, rule-stands, pair-stands, outside-set, placed-outside}
 
 -- ---- a symbol
 
@@ -77,6 +78,7 @@ module _ {r : ℕ} {w : List ℕ} (h : SymbolTurn r w) where
             f
             ∙ sym (one-count P a (omega (arith, length-map (turn .samples) (rankOf o), k .size, k .tried .filled, h .one .short)) ∙ ap (λ (d : ℕ). cond (eqb d a) 1 0) first ∙ ap (λ (y : Bool). cond y 1 0) e)
             ∙ ap (λ (s : List ℕ). length (occurrences P s)) (sym symbol-stands);
+        small = omega arith;
         inside = λ q. contra q (symbol .no-pair);
         cut = λ q. contra q (symbol .no-pair);
         no-cut = λ q. z;
@@ -109,6 +111,19 @@ module _ (o : Order) (t p : List ℕ) (r u v n c : ℕ) (h : PairOf t r u v) (e 
         length-map (occursIn o t p v) (λ (k : ℕ). n + k),
       )
 
+-- ---- the cuts
+
+pub tried-cuts : (o : Order) (p : List ℕ) → triedCuts (map (rankOf o) p) ≡ patternCuts o p
+unfolding triedCuts patternCuts
+tried-cuts o p = refl
+
+-- those that are tried are the pattern's
+cuts-here : {o : Order} {p text : List ℕ} {chair m n r : ℕ} {w : List ℕ} → Counting o p text chair m n r w → part CUTS n w ≡ patternCuts o p
+cuts-here {o = o} {p = p} h = h .tried .cuts ∙ ap triedCuts (h .ranks) ∙ tried-cuts o p
+
+same-fitting : {m n a b c d : ℕ} {x y : List ℕ} → m ≡ n → a ≡ b → c ≡ d → x ≡ y → fitting m a c x ≡ fitting n b d y
+same-fitting e f g h = rw (e, f, g, h)
+
 -- ---- what the code reads of rule r
 
 -- of a pair that stands at x: its halves are rules, and not too long
@@ -117,6 +132,7 @@ pub record PairKnown (u v x : ℕ) (w : List ℕ) : Type 0 where
   pub right : Readable w v
   pub inside : x + lengthIn w u + lengthIn w v ≤ 2048
   pub most : countIn w u + countIn w v ≤ 4096
+  pub apart : joinCutIn w u + joinCutIn w v < PACK
 
 module _ {m n r : ℕ} {w : List ℕ} (h : CountedBefore m n r w) where
   abbrev ord : Order
@@ -147,6 +163,7 @@ module _ {m n r : ℕ} {w : List ℕ} (h : CountedBefore m n r w) where
           right = record { low = omega arith; long = turn-known .long };
           inside = k .inside;
           most = omega (arith, a, b, occurrences-most P (ruleString ord t u), occurrences-most P (ruleString ord t v), k .inside, k .left-size, k .right-size);
+          apart = omega (arith, h .counting .found u left .small, h .counting .found v right .small);
         }
 
     pub pair-found : (at left right c x : ℕ) → at ≡ placeIn w r → left ≡ lengthIn w u → right ≡ lengthIn w v
@@ -162,20 +179,23 @@ module _ {m n r : ℕ} {w : List ℕ} (h : CountedBefore m n r w) where
         let filled : 0 < length P = omega (arith, length-map (h .samples) (rankOf ord), h .counting .pattern .filled) in
         record {
           number = e ∙ omega (arith, y, z, pair-counts ord t P r u v (lengthIn w u) c (k .pair) (k .left-size) filled (cut .place (k .std)));
+          small = omega (arith, cut .small, length-map (h .samples) (rankOf ord), h .counting .pattern .short);
           inside = λ q. omega (arith, cut .inside);
           cut = λ q. cut .place (k .std) ∙ ap (cutPlace (length (leftHalf ord t r))) (sym f);
           no-cut = λ q. contra (k .pair .is-pair) q;
         }
 
--- ---- one rule more
+    -- the tests are the cuts that fit
+    pub pair-tests : (left right before x : ℕ) → left ≡ lengthIn w u → right ≡ lengthIn w v → x ≡ before + fitting m left right (part CUTS n w) → x ≡ before + length (testsFor h)
+    pair-tests left right before x a b e =
+        let k = halves-here in
+        let t = tableOf ord (h .text) (h .chair) in
+        let cuts = patternCuts ord (h .samples) in
+        let made = tests-pair ord t (length (h .samples)) r cuts (k .pair .is-pair) in
+        let sizes = same-fitting (h .counting .size) (a ∙ k .left-size ∙ ap length (sym (k .pair .left-half ord))) (b ∙ k .right-size ∙ ap length (sym (k .pair .right-half ord))) (cuts-here (h .counting)) in
+        e ∙ ap (λ (i : ℕ). before + i) (sizes ∙ sym made)
 
-outside-set : (w : List ℕ) (j x : ℕ) → FOUND ≤ j → j < TABLE → Outside w (set w j x)
-outside-set w j x h k =
-    record {
-      size = length-set w j x;
-      before = take-set-le FOUND w j x h;
-      behind = drop-set-lt TABLE w j x k;
-    }
+-- ---- one rule more
 
 counted-more : (o : Order) (p text : List ℕ) (chair m n r : ℕ) (w : List ℕ) (x : ℕ) → Counting o p text chair m n r w → r < ruleCount (tableOf o text chair)
     → FoundIn o (tableOf o text chair) (map (rankOf o) p) r x → Counting o p text chair m n (r + 1) (set w (FOUND + r) x)
@@ -194,6 +214,7 @@ counted-more o p text chair m n r w x h low f =
             short = h .tried .short;
             few = h .tried .few;
             cuts = part-set-before CUTS n w (FOUND + r) x (omega arith) ∙ h .tried .cuts ∙ ap triedCuts (sym ranks);
+            end = getD-set-other w (FOUND + r) (CUTS + n) x 0 (λ e. omega arith) ∙ h .tried .end;
           };
       found = λ q l. split-lt q r
           (λ k. subst (λ (y : ℕ). FoundIn o (tableOf o text chair) (map (rankOf o) p) q y) (sym (getD-set-other w (FOUND + r) (FOUND + q) x 0 (λ e. omega arith))) (h .found q k))
@@ -206,15 +227,46 @@ pub longest-kept : (m n r : ℕ) (w v : List ℕ) (x : ℕ) → r < 2304 → v �
 unfolding longestTail
 longest-kept m n r w v x l e = rw (e, getD-set-other w (FOUND + r) CUTS x 0 (λ z. omega arith))
 
--- whatever text is loaded in w₀ and whatever the pattern is, the first r rules are counted in w
-abbrev pub Counted : ℕ → ℕ → ℕ → ℕ → List ℕ → List ℕ → Type 0
-Counted m n rules r w₀ w =
-    (o : Order) (p text : List ℕ) (chair : ℕ) → Counting o p text chair m n 0 w₀ → rules ≡ ruleCount (tableOf o text chair) → Counting o p text chair m n r w
+-- whatever text is loaded in w₀ and whatever the pattern is, the first r rules are counted in w, by so many tests
+abbrev pub Counted : ℕ → ℕ → ℕ → ℕ → ℕ → List ℕ → List ℕ → Type 0
+Counted m n rules r made w₀ w =
+    (o : Order) (p text : List ℕ) (chair : ℕ) → Counting o p text chair m n 0 w₀ → rules ≡ ruleCount (tableOf o text chair)
+    → Counting o p text chair m n r w × (made ≡ length (testsBelow o (tableOf o text chair) (length p) (patternCuts o p) r))
 
-pub counted-turn : (m n rules r : ℕ) (w₀ w v : List ℕ) (x : ℕ) → r < rules → Counted m n rules r w₀ w
-    → ((h : CountedBefore m n r w) → FoundFor h x) → v ≡ set w (FOUND + r) x → Counted m n rules (r + 1) w₀ v
-counted-turn m n rules r w₀ w v x l h f e o p text chair k s =
+pub counted-none : (m n rules : ℕ) (w : List ℕ) → Counted m n rules 0 0 w w
+unfolding testsBelow
+counted-none m n rules w o p text chair k s = (k, refl)
+
+pub counted-turn : (m n rules r before made : ℕ) (w₀ w v : List ℕ) (x : ℕ) → r < rules → Counted m n rules r before w₀ w
+    → ((h : CountedBefore m n r w) → FoundFor h x × (made ≡ before + length (testsFor h))) → v ≡ set w (FOUND + r) x → Counted m n rules (r + 1) made w₀ v
+counted-turn m n rules r before made w₀ w v x l h f e o p text chair k s =
     let low : r < ruleCount (tableOf o text chair) = omega arith in
-    let c = h o p text chair k s in
-    subst (Counting o p text chair m n (r + 1)) (sym e)
-    (counted-more o p text chair m n r w x c low (f (record { order = o; samples = p; text = text; chair = chair; counting = c; low = low })))
+    let (c, q) = h o p text chair k s in
+    let (a, b) = f (record { order = o; samples = p; text = text; chair = chair; counting = c; low = low }) in (
+      subst (Counting o p text chair m n (r + 1)) (sym e) (counted-more o p text chair m n r w x c low a),
+      b ∙ omega (arith, q, tests-more o (tableOf o text chair) (length p) (patternCuts o p) r),
+    )
+
+pub counted-end : (m n rules r made : ℕ) (w₀ w : List ℕ) → r ≡ rules → Counted m n rules r made w₀ w
+    → (o : Order) (p text : List ℕ) (chair : ℕ) → Counting o p text chair m n 0 w₀ → rules ≡ ruleCount (tableOf o text chair)
+    → Counting o p text chair m n rules w × (made ≡ length (tests o (tableOf o text chair) p))
+unfolding tests
+counted-end m n rules r made w₀ w e h o p text chair k s =
+    let (c, q) = h o p text chair k s in (
+      subst (λ (i : ℕ). Counting o p text chair m n i w) e c,
+      q ∙ ap (λ (i : ℕ). length (testsBelow o (tableOf o text chair) (length p) (patternCuts o p) i)) (e ∙ s),
+    )
+
+-- at most 11 a rule
+few-below : (o : Order) (t : List ℕ) (m : ℕ) (cuts : List ℕ) → length cuts ≤ 11 → (r : ℕ) → length (testsBelow o t m cuts r) ≤ 11 * r
+unfolding testsBelow
+few-below o t m cuts h zero = omega arith
+few-below o t m cuts h (suc r) =
+    omega (arith, length-append (testsBelow o t m cuts r) (testsOf o t m cuts r), few-below o t m cuts h r, rule-few o t m cuts r)
+
+pub few-tests : (m n rules r made : ℕ) (w₀ w : List ℕ) → Counts m n rules 0 w₀ → Counted m n rules r made w₀ w → made ≤ 11 * r
+few-tests m n rules r made w₀ w c h =
+    let (k, e) = h (c .order) (c .samples) (c .text) (c .chair) (c .counting) (c .size) in
+    let size = part-length CUTS n w (omega (arith, k .tried .few, k .loaded .kept .long)) in
+    let few : length (patternCuts (c .order) (c .samples)) ≤ 11 = omega (arith, ap length (cuts-here k), size, k .tried .few) in
+    omega (arith, e, few-below (c .order) (tableOf (c .order) (c .text) (c .chair)) (length (c .samples)) (patternCuts (c .order) (c .samples)) few r)

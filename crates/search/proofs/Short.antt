@@ -1,7 +1,7 @@
--- A string that is shorter than the pattern: nothing is found in its rule (`short-found`); where the root's is, nothing is in any (`short-all`), since every rule's
+-- A string that is shorter than the pattern: nothing is found in its rule (`short-found`), and nothing tested (`short-tests`); where the root's is, nothing is in any (`short-all`, `short-text`, `short-search`), since every rule's
 -- string stands in what the root spells. And a string of two symbols or more is a pair's (`long-pair`).
 use mathlib.Core.Path.{_≡_, refl, sym, _∙_, ap, subst}
-use mathlib.Core.Bool.{true}
+use mathlib.Core.Bool.{Bool, true, false}
 use mathlib.Core.List.{List, [], _∷_, _++_, map}
 use Prim.Native.Nat.{ℕ, _+_, _-_, _≤_, _<_}
 use native.Mathlib.Omega.{arith}
@@ -9,7 +9,7 @@ use lib.ListN.{length, take, drop, getD, replicate, length-append, length-map, l
 use lib.Seq.{length-take-le, drop-at}
 use Rattle.definitions.specs.declared.Order.{Order}
 use Rattle.definitions.specs.Table.{rankOf, tableOf, ruleString, spelled, isPair, leftHalf, rightHalf, ruleCount}
-use Rattle.definitions.specs.Occurrences.{occurrences, straddling}
+use Rattle.definitions.specs.Occurrences.{occurrences, straddling, testsOf, tests}
 use Rattle.lists.specs.Bools.{contra}
 use Rattle.lists.specs.Parts.{part-at, part-front}
 use Rattle.lyndon.specs.Joins.{occurrences-join}
@@ -17,6 +17,8 @@ use Rattle.lyndon.specs.Occurrences.{longer-nowhere}
 use Rattle.lyndon.specs.Ranks.{marked-length}
 use Rattle.lyndon.specs.Ruled.{PairOf}
 use Rattle.lyndon.specs.Stored.{rule-range, table-spelled}
+use Rattle.lyndon.specs.Tests.{tests-pair, tests-symbol, fitting-none}
+use Rattle.lyndon.specs.Windows.{tests-most}
 use Rattle.layout.specs.Layout.{TABLE, FOUND, lengthIn}
 use Rattle.decoding.specs.declared.Rule.the-variants.{Pair}
 use Rattle.decoding.specs.Decoding.{ruleIn, leftIn, rightIn}
@@ -52,24 +54,27 @@ module _ (o : Order) (text : List ℕ) (chair : ℕ) (w : List ℕ) (h : Loaded 
     halves : isPair (tableOf o text chair) r ≡ true → PairOf (tableOf o text chair) r (leftIn w r) (rightIn w r)
     halves q = pair-stands o text chair w h r low (leftIn w r) (rightIn w r) (pair-unless w r small (λ a b s. contra q (placed-symbol o text chair w h r low a b s .no-pair))) .pair
 
+    half-sizes : isPair (tableOf o text chair) r ≡ true → length (leftHalf o (tableOf o text chair) r) + length (rightHalf o (tableOf o text chair) r) ≡ lengthIn w r
+    half-sizes q =
+        let k = halves q in
+        omega (arith, h .sizes r low, ap length (k .left-half o), ap length (k .right-half o), ap length (k .string o), length-append (ruleString o t (leftIn w r)) (ruleString o t (rightIn w r)))
+
+    -- and it has no tests
+    pub short-tests : (m : ℕ) (cuts : List ℕ) → lengthIn w r < m → length (testsOf o (tableOf o text chair) m cuts r) ≡ 0
+    short-tests m cuts l = go (isPair t r) refl
+      where
+        go : (b : Bool) → isPair (tableOf o text chair) r ≡ b → length (testsOf o (tableOf o text chair) m cuts r) ≡ 0
+        go true e = tests-pair o t m r cuts e ∙ fitting-none m (length (leftHalf o t r)) (length (rightHalf o t r)) cuts (omega (arith, half-sizes e))
+        go false e = ap length (tests-symbol o t m r cuts e)
+
     pub short-found : (p : List ℕ) → lengthIn w r < length p → FoundIn o (tableOf o text chair) p r 0
     unfolding occursIn acrossJoin
     short-found p l =
         record {
           number = sym (ap length (longer-nowhere p (ruleString o t r) (omega (arith, h .sizes r low))));
+          small = omega arith;
           inside = λ q. omega arith;
-          cut = λ q.
-              let k = halves q in
-              short-straddling p (leftHalf o t r) (rightHalf o t r)
-              (omega (
-                arith,
-                h .sizes r low,
-                ap length (k .left-half o),
-                ap length (k .right-half o),
-                ap length (k .string o),
-                length-append (ruleString o t (leftIn w r)) (ruleString o t (rightIn w r)),
-              ))
-              ∙ sym (cut-place-none (length (leftHalf o t r)) 0 refl);
+          cut = λ q. short-straddling p (leftHalf o t r) (rightHalf o t r) (omega (arith, half-sizes q)) ∙ sym (cut-place-none (length (leftHalf o t r)) 0 refl);
           no-cut = λ q. refl;
         }
 
@@ -81,12 +86,20 @@ module _ (o : Order) (text : List ℕ) (chair : ℕ) (w : List ℕ) (h : Loaded 
         omega (arith, h .sizes r low, h .sizes (ruleCount t - 1) (omega arith), h .places r low .inside, ap length (table-spelled o text chair (h .kept .stored)))
 
   -- ---- the text, and all rules
-  pub short-text : (p : List ℕ) (rules : ℕ) → rules ≡ ruleCount (tableOf o text chair) → lengthIn w (rules - 1) < length p → 0 ≡ length (occurrences p text)
+
+  -- the root's string is the text and the mark
+  root-size : (rules : ℕ) → rules ≡ ruleCount (tableOf o text chair) → lengthIn w (rules - 1) ≡ length text + 1
   unfolding spelled
-  short-text p rules e l =
+  root-size rules e =
       let most = rule-range o text chair (h .kept .stored) in
       let root = ap (λ (i : ℕ). lengthIn w (i - 1)) e in
-      sym (ap length (longer-nowhere p text (omega (arith, root, h .sizes (ruleCount t - 1) (omega arith), ap length (table-spelled o text chair (h .kept .stored)), marked-length o text))))
+      omega (arith, root, h .sizes (ruleCount t - 1) (omega arith), ap length (table-spelled o text chair (h .kept .stored)), marked-length o text)
+
+  pub short-text : (p : List ℕ) (rules : ℕ) → rules ≡ ruleCount (tableOf o text chair) → lengthIn w (rules - 1) < length p → 0 ≡ length (occurrences p text)
+  short-text p rules e l = sym (ap length (longer-nowhere p text (omega (arith, root-size rules e))))
+
+  pub short-search : (p : List ℕ) (rules : ℕ) → rules ≡ ruleCount (tableOf o text chair) → lengthIn w (rules - 1) < length p → 0 ≡ length (tests o (tableOf o text chair) p)
+  short-search p rules e l = omega (arith, root-size rules e, tests-most o text chair (h .kept .stored) p)
 
   -- n words from FOUND on are cleared
   pub short-all : (p z : List ℕ) (n rules : ℕ) → Pattern p → rules ≡ ruleCount (tableOf o text chair) → lengthIn w (rules - 1) < length p → n ≡ rules

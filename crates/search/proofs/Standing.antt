@@ -1,12 +1,12 @@
 -- What `Loaded` says of a rule: what it is read as (`placed-symbol`), where it and its halves stand (`rule-stands`, `pair-stands`), and
--- that stores between FOUND and TABLE change none of it (`placed-outside`, `lent-outside`).
+-- that stores between FOUND and TABLE change none of it (`placed-outside`, `lent-outside`, `outside-set`).
 use mathlib.Core.Path.{_≡_, sym, _∙_, ap, ap₂, subst}
 use mathlib.Core.List.{List, _++_}
 use Prim.Native.Nat.{ℕ, suc, _+_, _≤_, _<_}
 use native.Mathlib.Omega.{arith}
 use native.Mathlib.Nat.{zero-add}
-use lib.ListN.{length, take, drop, getD}
-use lib.Seq.{getD-take}
+use lib.ListN.{length, take, drop, getD, set, length-set}
+use lib.Seq.{getD-take, take-set-le, drop-set-lt}
 use Rattle.definitions.specs.declared.Order.{Order}
 use Rattle.definitions.specs.Table.{marked, tableOf, ruleString, leftHalf, rightHalf, ruleCount}
 use Rattle.lists.specs.Parts.{part, part-part, part-agree, lent-length, lent-before, lent-behind}
@@ -85,6 +85,15 @@ lent-outside w z o n low high long e =
       size = lent-length w z o n (omega arith) e;
       before = lent-before w z o n (omega arith) e FOUND low;
       behind = lent-behind w z o n (omega arith) e TABLE high;
+    }
+
+-- or one word is stored
+pub outside-set : (w : List ℕ) (j x : ℕ) → FOUND ≤ j → j < TABLE → Outside w (set w j x)
+outside-set w j x h k =
+    record {
+      size = length-set w j x;
+      before = take-set-le FOUND w j x h;
+      behind = drop-set-lt TABLE w j x k;
     }
 
 outside-at : (w v : List ℕ) → Outside w v → (i : ℕ) → i < FOUND → getD v i 0 ≡ getD w i 0

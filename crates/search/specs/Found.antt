@@ -3,7 +3,7 @@
 use mathlib.Core.Path.{_≡_}
 use mathlib.Core.Bool.{true, false}
 use mathlib.Core.List.{List}
-use Prim.Native.Nat.{ℕ, _/_, _%_, _≤_}
+use Prim.Native.Nat.{ℕ, _/_, _%_, _≤_, _<_}
 use lib.ListN.{length}
 use Rattle.definitions.specs.declared.Order.{Order}
 use Rattle.definitions.specs.Table.{ruleString, isPair, leftHalf, rightHalf}
@@ -22,6 +22,7 @@ acrossJoin o t p r = straddling p (leftHalf o t r) (rightHalf o t r)
 -- x holds the number of occurrences times PACK and the cut at the join, 0 where the rule is a symbol's
 pub record FoundIn (o : Order) (t p : List ℕ) (r x : ℕ) : Type 0 where
   pub number : x / PACK ≡ length (occursIn o t p r)
+  pub small : x % PACK < 2048
   pub inside : isPair t r ≡ true → x % PACK ≤ length (leftHalf o t r)
   pub cut : isPair t r ≡ true → acrossJoin o t p r ≡ cutPlace (length (leftHalf o t r)) (x % PACK)
   pub no-cut : isPair t r ≡ false → x % PACK ≡ 0

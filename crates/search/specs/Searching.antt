@@ -6,6 +6,7 @@ use Prim.Native.Nat.{ℕ, _+_, _≤_, _<_}
 use lib.ListN.{length, getD}
 use Rattle.definitions.specs.declared.Order.{Order}
 use Rattle.definitions.specs.Table.{rankOf, tableOf, ruleCount}
+use Rattle.definitions.specs.Occurrences.{patternCuts, Test, testsOf}
 use Rattle.lists.specs.Parts.{part}
 use Rattle.lyndon.specs.Ranks.{Bytes}
 use Rattle.layout.specs.Layout.{FOUND, PATTERN}
@@ -80,3 +81,7 @@ pub record SymbolTurn (r : ℕ) (w : List ℕ) : Type 0 where
 -- what is found in rule r, of such a search
 abbrev pub FoundFor : {m n r : ℕ} {w : List ℕ} → CountedBefore m n r w → ℕ → Type 0
 FoundFor {r = r} h x = FoundIn (h .order) (tableOf (h .order) (h .text) (h .chair)) (map (rankOf (h .order)) (h .samples)) r x
+
+-- the tests of rule r
+abbrev pub testsFor : {m n r : ℕ} {w : List ℕ} → CountedBefore m n r w → List Test
+testsFor {r = r} h = testsOf (h .order) (tableOf (h .order) (h .text) (h .chair)) (length (h .samples)) (patternCuts (h .order) (h .samples)) r

@@ -9,6 +9,7 @@ use finding::locate_loaded;
 use layout::WORK;
 use opening::admit;
 use ranks::SAMPLE_ORDER;
+use results::with_tests;
 ghost use mathlib.Core.List.{[], _∷_};
 ghost use Rattle.definitions.specs.Services.{Serves, Answers, Searches, sampleOrder, countService, locateService, cutsService};
 
@@ -23,38 +24,36 @@ pub fn live_cuts(pattern: &[u8], result: &mut [u32]) -> Answer
     deliver_cuts(pattern, result)
 }
 
-// Counts the occurrences of a pattern in the drive of a table. Refuses by 2, 3, 4 to 7; success answers how many there are.
+// Counts the occurrences of a pattern in the drive of a table. Refuses by 2, 3, 4 to 7; success answers how many there are, and how many tests were made.
 pub fn count(table: &[u32], pattern: &[u8], work: &mut [u32]) -> Search
     ensures { λ r. ⌜ Serves (countService sampleOrder (now (table .entry)) (now (pattern .entry)) (now (work .entry))) (Searches r) (now (work .exit) ∷ []) ⌝ }
 {
     let p = pattern_fits(pattern);
     let Answer::Done(_) = p else {
-        return Search { answer: p };
+        return with_tests(p, 0);
     };
     let a = admit(SAMPLE_ORDER, table, work);
     let Answer::Done(rules) = a else {
-        return Search { answer: a };
+        return with_tests(a, 0);
     };
     let n = count_loaded(pattern, rules, &mut work[0..WORK]);
     clear_front(work);
-    Search {
-        answer: Answer::Done(n),
-    }
+    with_tests(Answer::Done(n.occurrences), n.tests)
 }
 
-// Lists the occurrences of a pattern in the drive of a table. Refuses by 2, 3, 4 to 7, 9; success answers how many there are.
+// Lists the occurrences of a pattern in the drive of a table. Refuses by 2, 3, 4 to 7, 9; success answers how many there are, and how many tests were made.
 pub fn locate(table: &[u32], pattern: &[u8], work: &mut [u32], result: &mut [u32]) -> Search
     ensures { λ r. ⌜ Serves (locateService sampleOrder (now (table .entry)) (now (pattern .entry)) (now (work .entry)) (now (result .entry))) (Searches r) (now (work .exit) ∷ now (result .exit) ∷ []) ⌝ }
 {
     let p = pattern_fits(pattern);
     let Answer::Done(_) = p else {
-        return Search { answer: p };
+        return with_tests(p, 0);
     };
     let a = admit(SAMPLE_ORDER, table, work);
     let Answer::Done(rules) = a else {
-        return Search { answer: a };
+        return with_tests(a, 0);
     };
     let b = locate_loaded(pattern, rules, &mut work[0..WORK], result);
     clear_front(work);
-    Search { answer: b }
+    b
 }

@@ -1,7 +1,7 @@
 // The program `trials`: each line of its input has a drive and a motif, with a space between them. The drive is stored and the motif
-// searched, and what the library lists is compared with what the naive scanner lists; so is the drive's Lyndon array, entry by entry, with
-// what single calls answer and with what the naive side says, and the motif's cuts with those that the naive side lists. The file `stdout` has what
-// is printed.
+// searched, and what the library lists is compared with what the naive scanner lists, and the tests that it counts with those that the naive
+// side counts; so is the drive's Lyndon array, entry by entry, with what single calls answer and with what the naive side says, and the motif's
+// cuts with those that the naive side lists. The file `stdout` has what is printed.
 use definitions::Answer;
 use libc::STDIN_FILENO;
 use libc::STDOUT_FILENO;
@@ -73,7 +73,7 @@ fn store<'a>(drive: &'a [u8], motif: &'a [u8]) {
     }
 }
 
-// Prints what the library finds, and whether the naive scanner finds the same.
+// Prints what the library finds, and whether the naive scanner finds the same; then the tests.
 fn search<'a>(table: &'a [u32], drive: &'a [u8], motif: &'a [u8])
     requires { ⌜ length (now drive) ≤ 63 ⌝ }
 {
@@ -82,6 +82,7 @@ fn search<'a>(table: &'a [u32], drive: &'a [u8], motif: &'a [u8])
     let mut scanned = [7u32; 64];
     let s = index::locate(table, motif, &mut work, &mut found);
     let a = s.answer;
+    let tests = s.tests;
     match a {
         Answer::Refused(number, _) => print_number(b" refused ", wide(number)),
         Answer::Done(n) => {
@@ -89,6 +90,25 @@ fn search<'a>(table: &'a [u32], drive: &'a [u8], motif: &'a [u8])
             if scan(motif, drive, &mut scanned) == n && equal(&found, &scanned) {
                 print(b" by both");
             }
+            print_tests(table, motif, tests);
+        }
+    }
+}
+
+// Prints how many tests the library counts, and whether the naive side counts as many. A motif whose tests are counted has at most 63 samples.
+fn print_tests<'a>(table: &'a [u32], motif: &'a [u8], tests: usize) {
+    print_number(b" tests ", tests);
+    if 63 < motif.len() {
+        return;
+    }
+    if 256 < table.len() {
+        return;
+    }
+    let mut cuts = [7u32; 64];
+    let n = naive::cuts::list(motif, &mut cuts);
+    if n <= 64 {
+        if naive_tests::count(table, &cuts[0..n], motif.len()) == tests {
+            print(b" by both");
         }
     }
 }

@@ -1,13 +1,13 @@
 -- `sirbolta_build` is `build`.
 use mathlib.Core.Path.{_∙_, ap}
 use borrow.Author.Needs.{needs}
-use Rattle.definitions.specs.Services.{numbersOf}
+use Rattle.definitions.specs.Replies.{replyOf}
 use Rattle.lists.specs.Serving.{said}
 use Rattle.capi.proofs.sirbolta_build.Statement.{statement}
 use Rattle.capi.proofs.sirbolta_build.Tie as tie
 
 returns : tie.Need-returns
-returns c = said (λ o e. c .replied .ensures ∙ ap numbersOf e) (c .before .before .before .before .before .build .ensures)
+returns c = said (λ o e. c .replied .ensures ∙ ap replyOf e) (c .before .before .before .before .before .build .ensures)
 
 pub sirbolta-build-spec : {M : Type 1} → statement M
 sirbolta-build-spec = tie.close (tie.spec (λ c κs. search needs) (λ c κs. search needs) (λ c. search needs) (λ c. search needs) returns)

@@ -1,13 +1,13 @@
 -- `sirbolta_check` is `check`.
 use mathlib.Core.Path.{_∙_, ap}
 use borrow.Author.Needs.{needs}
-use Rattle.definitions.specs.Services.{numbersOf}
+use Rattle.definitions.specs.Replies.{replyOf}
 use Rattle.lists.specs.Serving.{said}
 use Rattle.capi.proofs.sirbolta_check.Statement.{statement}
 use Rattle.capi.proofs.sirbolta_check.Tie as tie
 
 returns : tie.Need-returns
-returns c = said (λ o e. c .replied .ensures ∙ ap numbersOf e) (c .before .before .before .check .ensures)
+returns c = said (λ o e. c .replied .ensures ∙ ap replyOf e) (c .before .before .before .check .ensures)
 
 pub sirbolta-check-spec : {M : Type 1} → statement M
 sirbolta-check-spec = tie.close (tie.spec (λ c κs. search needs) (λ c κs. search needs) (λ c. search needs) returns)

@@ -1,13 +1,12 @@
 -- `sirbolta_count` is `count`.
-use mathlib.Core.Path.{_∙_, ap}
 use borrow.Author.Needs.{needs}
-use Rattle.definitions.specs.Services.{numbersOf}
 use Rattle.lists.specs.Serving.{said}
+use Rattle.replies.proofs.Outcomes.{search-replies}
 use Rattle.capi.proofs.sirbolta_count.Statement.{statement}
 use Rattle.capi.proofs.sirbolta_count.Tie as tie
 
 returns : tie.Need-returns
-returns c = said (λ o e. c .replied-search .ensures ∙ ap numbersOf e) (c .before .before .before .count .ensures)
+returns c = said (search-replies _ _ (c .replied-search .ensures)) (c .before .before .before .count .ensures)
 
 pub sirbolta-count-spec : {M : Type 1} → statement M
 sirbolta-count-spec = tie.close (tie.spec (λ c κs. search needs) (λ c κs. search needs) (λ c. search needs) returns)

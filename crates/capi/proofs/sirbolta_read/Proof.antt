@@ -1,13 +1,13 @@
 -- `sirbolta_read` is `read`.
 use mathlib.Core.Path.{_∙_, ap}
 use borrow.Author.Needs.{needs}
-use Rattle.definitions.specs.Services.{numbersOf}
+use Rattle.definitions.specs.Replies.{replyOf}
 use Rattle.lists.specs.Serving.{said}
 use Rattle.capi.proofs.sirbolta_read.Statement.{statement}
 use Rattle.capi.proofs.sirbolta_read.Tie as tie
 
 returns : tie.Need-returns
-returns c = said (λ o e. c .replied-read .ensures ∙ ap numbersOf e) (c .before .before .before .before .before .read .ensures)
+returns c = said (λ o e. c .replied-read .ensures ∙ ap replyOf e) (c .before .before .before .before .before .read .ensures)
 
 pub sirbolta-read-spec : {M : Type 1} → statement M
 sirbolta-read-spec = tie.close (tie.spec (λ c κs. search needs) (λ c κs. search needs) (λ c. search needs) (λ c. search needs) returns)

@@ -5,7 +5,7 @@ use lib.ListN.{length}
 use borrow.Author.Needs.{needs}
 use Rattle.definitions.specs.Services.{done, readOutcome}
 use Rattle.lists.specs.Serving.{restated}
-use Rattle.results.proofs.Chairs.{chair-refused, chair-done}
+use Rattle.results.proofs.Answers.{chair-refused, chair-done}
 use Rattle.delivery.proofs.read_loaded.Statement.{statement}
 use Rattle.delivery.proofs.read_loaded.Tie as tie
 

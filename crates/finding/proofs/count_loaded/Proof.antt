@@ -15,7 +15,7 @@ returns : tie.Need-returns
 returns c h e size =
     let b = c .before .before in
     let a = b .before .before .before .before .args in
-    loaded-count sampleOrder (a .work .now) (a .rules) h e size (a .pattern .now) (b .count .last .1 .1 .0) (b .count .result) (b .count .ensures)
+    loaded-count sampleOrder (a .work .now) (a .rules) h e size (a .pattern .now) (b .count .last .1 .1 .0) (b .count .result .occurrences) (b .count .result .tests) (b .count .ensures)
 
 pub count-loaded-spec : {M : Type 1} → statement M
 count-loaded-spec = tie.close (tie.spec count-requires (λ c. search needs) returns)

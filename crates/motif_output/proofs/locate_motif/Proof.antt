@@ -3,7 +3,7 @@ use Prim.Native.Nat.{_-_}
 use native.Mathlib.Omega.{arith}
 use lib.ListN.{take}
 use borrow.Author.Needs.{needs}
-use Rattle.definitions.specs.Services.{searchOutcome, sampleOrder}
+use Rattle.definitions.specs.Services.{sampleOrder}
 use Rattle.definitions.specs.Programs.{driveOf}
 use Rattle.motif_input.proofs.Splitting.{motif-taken, motif-fits, drive-bytes}
 use Rattle.motif_output.proofs.Stepping.{stored, motif-located}
@@ -16,7 +16,6 @@ part-locate-end c =
     omega (arith, c .motif-length .ensures, motif-fits input)
 
 returns : tie.Need-returns
-unfolding searchOutcome
 returns c =
     let l = c .before .before .before in
     let m = l .before .before .before .before in
@@ -26,7 +25,7 @@ returns c =
     let motif = motif-taken input (m .motif-length .result) (m .motif-length .ensures) in
     let bytes = drive-bytes input (λ i h. omega (arith, k .shared-slice-known .given i)) in
     let ok = stored (driveOf input) (s .pre .0 .short) bytes in
-    motif-located sampleOrder input (s .args .positions .now) _ (omega arith) (s .pre .1) ok (s .args .table .now) (take (m .motif-length .result - 0) input) (l .locate .last .1 .1 .0) (l .locate .last .1 .1 .1 .0) _ (s .pre .0 .table) motif (l .locate .ensures)
+    motif-located sampleOrder input (s .args .positions .now) _ (omega arith) (s .pre .1) ok (s .args .table .now) (take (m .motif-length .result - 0) input) (l .locate .last .1 .1 .0) (l .locate .last .1 .1 .1 .0) (l .locate .result) (s .pre .0 .table) motif (l .locate .ensures)
 
 pub locate-motif-spec : {M : Type 1} → statement M
 locate-motif-spec =

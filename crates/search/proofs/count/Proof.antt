@@ -7,7 +7,7 @@ use borrow.Author.Needs.{needs}
 use borrow.Author.Tests.{ltb-true}
 use Rattle.lyndon.specs.Stored.{rule-range}
 use Rattle.layout.specs.Layout.{FOUND, lengthIn}
-use Rattle.search.proofs.Short.{short-text, short-all}
+use Rattle.search.proofs.Short.{short-text, short-search, short-all}
 use Rattle.search.proofs.Starting.{pattern-here, counted-text, counted-all}
 use Rattle.search.proofs.count.Statement.{statement}
 use Rattle.search.proofs.count.Tie as tie
@@ -36,6 +36,7 @@ returns c text chair h e =
     let q = pattern-here p (s .pre .1) (s .pre .2) (λ j b. omega (arith, k .shared-slice-known .given j)) in
     let shorter = ltb-true (lengthIn w (a .rules - 1)) (length p) (sym (i .is-shorter .ensures) ∙ l .before .before .if1 .taken) in (
       short-text (a .order) text chair w h p (a .rules) e shorter,
+      short-search (a .order) text chair w h p (a .rules) e shorter,
       short-all (a .order) text chair w h p (l .clear .last .0) (FOUND + a .rules - FOUND) (a .rules) q e shorter (omega arith) (l .clear .ensures),
     )
 
@@ -74,9 +75,9 @@ returns-2 c text chair h e =
     let s = number-start r in
     let a = s .args in
     let w = r .count-rules .last .0 in
-    let all = counted-all (a .order) (a .pattern .now) text chair _ (p .place-pattern .result) (a .rules) w e
-    (r .count-rules .ensures (a .order) (a .pattern .now) text chair (p .place-pattern .ensures text chair h) e) in
-    (c .number-of .ensures ∙ counted-text (a .order) (a .pattern .now) text chair (a .rules) w (range s .0) e all, all)
+    let (counted, tests) = r .count-rules .ensures (a .order) (a .pattern .now) text chair (p .place-pattern .ensures text chair h) e in
+    let all = counted-all (a .order) (a .pattern .now) text chair _ (p .place-pattern .result) (a .rules) w e counted in
+    (c .number-of .ensures ∙ counted-text (a .order) (a .pattern .now) text chair (a .rules) w (range s .0) e all, tests, all)
 
 pub count-spec : {M : Type 1} → statement M
 count-spec =

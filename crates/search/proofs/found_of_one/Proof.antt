@@ -30,16 +30,14 @@ known : (c : tie.After-rule) → let a = c .before .before .before .before .args
     PairKnown (c .rule .given .0 .0) (c .rule .given .0 .1 .0) (placeIn (a .work .now) (a .r)) (a .work .now)
 known c = pair-known (c .before .before .before .before .pre .turn) (c .rule .given .0 .0) (c .rule .given .0 .1 .0) (is-pair c)
 
-add-found : tie.Need-add-found
-add-found c = omega (arith, known (c .before .before .before) .most, c .number-of2 .ensures, c .before .number-of .ensures)
-
 found-requires : tie.Need-found-requires
-found-requires c κs = (omega (arith, known (c .before .before .before) .most, c .number-of2 .ensures, c .before .number-of .ensures), omega arith)
+found-requires c κs =
+    let k = known (c .before) in
+    (k .left, k .right, k .most, k .apart, omega arith)
 
 returns-2 : tie.Need-returns-2
 returns-2 c h =
-    let n = c .before in
-    let r = n .before .before .before in
+    let r = c .before .before in
     let a = r .before .before .before .before .args in
     let w = a .work .now in
     let u = r .rule .given .0 .0 in
@@ -47,10 +45,9 @@ returns-2 c h =
     let t = h .turn in
     pair-found t u v (is-pair r) (placeIn w (a .r)) (lengthIn w u) (lengthIn w v) 0 (c .found .result) refl refl refl
     (join-one w (h .size) (h .cuts) (placeIn w (a .r)) (lengthIn w u) (lengthIn w v) (t .counting .tried) (known r .inside) (turn-known t .long) (h .short))
-    (omega (arith, c .found .ensures .0, n .number-of2 .ensures, n .before .number-of .ensures)) (omega (arith, c .found .ensures .1))
+    (omega (arith, c .found .ensures .0)) (omega (arith, c .found .ensures .1))
 
 pub found-of-one-spec : {M : Type 1} → statement M
 found-of-one-spec =
     tie.close
-    (tie.spec (λ c κs. turn-known (c .before .pre .turn)) (λ c. search needs) (λ c. search needs) found-in-symbol-requires returns
-    (λ c κs. known (c .before) .left) (λ c κs. known (c .before .before) .right) add-found found-requires returns-2)
+    (tie.spec (λ c κs. turn-known (c .before .pre .turn)) (λ c. search needs) (λ c. search needs) found-in-symbol-requires returns found-requires returns-2)

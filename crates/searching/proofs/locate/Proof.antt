@@ -1,32 +1,37 @@
 -- `locate` is refused by the pattern, or where the table is not opened; else it is decided by delivering what is found, and the work slice is cleared.
-use mathlib.Core.Path.{refl, _∙_}
+use mathlib.Core.Path.{refl, _∙_, subst}
+use mathlib.Core.List.{List, [], _∷_}
+use Prim.Native.Nat.{ℕ}
 use native.Mathlib.Omega.{arith}
 use lib.ListN.{length}
 use borrow.Author.Needs.{needs}
-use Rattle.definitions.specs.Services.{searchOutcome, patternChecks, tableChecks, locateService}
+use Rattle.definitions.specs.Table.{textOf}
+use Rattle.definitions.specs.Occurrences.{occurrences, tests}
+use Rattle.definitions.specs.Services.{sampleOrder, patternChecks, tableChecks, writes, Serves, Searches, locateService}
 use Rattle.lists.specs.Decisions.{done-all}
-use Rattle.lists.specs.Serving.{answer-refuses, refused-front, passed, worked}
+use Rattle.lists.specs.Serving.{refused-front, passed, worked}
 use Rattle.checks.proofs.Fronts.{work-cleared}
 use Rattle.checks.proofs.Patterns.{pattern-keeps, passed-pattern}
-use Rattle.opening.proofs.Services.{ready, opened-cleared, opening-refused, opening-done}
+use Rattle.results.proofs.Answers.{search-refuses}
+use Rattle.opening.proofs.Services.{ready, opened-table, opened-cleared, opening-refused, opening-done}
 use Rattle.searching.proofs.locate.Statement.{statement}
 use Rattle.searching.proofs.locate.Tie as tie
 
 returns : tie.Need-returns
-unfolding locateService searchOutcome patternChecks tableChecks
+unfolding locateService patternChecks tableChecks
 returns c =
-    let f = c .before .before in
+    let f = c .before .before .before in
     let p = f .before .before .before .before .before .args .pattern .now in
-    refused-front (patternChecks p) _ (length p) (pattern-keeps p) (f .pattern-fits .ensures) (c .enum-told2 .given .1) (answer-refuses (f .pattern-fits .result)) (λ d e. rw e)
+    refused-front (patternChecks p) _ (length p) (pattern-keeps p) (f .pattern-fits .ensures) (c .before .enum-told2 .given .1) (search-refuses (f .pattern-fits .result) (c .with-tests .result) (c .with-tests .ensures)) (λ d e. rw e)
 
 returns-2 : tie.Need-returns-2
-unfolding locateService searchOutcome patternChecks tableChecks
+unfolding locateService patternChecks tableChecks
 returns-2 c =
-    let m = c .before .before .before .before in
+    let m = c .before .before .before .before .before in
     let f = m .before .before .before .before in
     let p = f .before .before .before .before .before .args .pattern .now in
     passed (done-all (patternChecks p) (length p) (f .pattern-fits .ensures) (m .before .before .enum-told .given .1) .0)
-    (opening-refused _ (m .admit .ensures) (c .enum-told3 .given .1) (answer-refuses (m .admit .result)) (λ d. refl))
+    (opening-refused _ (m .admit .ensures) (c .before .enum-told3 .given .1) (search-refuses (m .admit .result) (c .with-tests2 .result) (c .with-tests2 .ensures)) (λ d. refl))
 
 part-locate-loaded-end : tie.Need-part-locate-loaded-end
 part-locate-loaded-end c =
@@ -50,7 +55,7 @@ clear-front-requires c κs =
     omega (arith, opening-done (k .before .before .before .before .admit .ensures) (k .a .given .1) .1 .long)
 
 returns-3 : tie.Need-returns-3
-unfolding locateService searchOutcome patternChecks tableChecks ready
+unfolding locateService patternChecks tableChecks ready
 returns-3 c =
     let z = c .before .before in
     let b = z .before .before .before .before .before .before in
@@ -63,10 +68,11 @@ returns-3 c =
     passed (done-all (patternChecks p) (length p) (f .pattern-fits .ensures) (m .before .before .enum-told .given .1) .0)
     (passed o (worked (a .work .now) (z .clear-front .last .0) (refl, refl)
     (work-cleared (m .admit .last .1 .1 .0) (b .locate-loaded .last .1 .1 .0) (z .clear-front .last .0) (x .long) (b .locate-loaded .kept .1 .1 .0) (z .clear-front .ensures) ∙ opened-cleared x)
-    (b .locate-loaded .ensures (ready x) refl e)))
+    (subst (λ (t : List ℕ). Serves (writes [] (occurrences p (textOf sampleOrder (a .table .now))) (length (tests sampleOrder t p)) (a .result .now)) (Searches (b .locate-loaded .result)) (b .locate-loaded .last .1 .1 .1 .0 ∷ []))
+    (opened-table x) (b .locate-loaded .ensures (ready x) refl e))))
 
 pub locate-spec : {M : Type 1} → statement M
 locate-spec =
     tie.close
-    (tie.spec (λ c κs. search needs) (λ c. search needs) (λ c. search needs) returns (λ c κs. search needs) (λ c. search needs) (λ c. search needs) (λ c. search needs)
+    (tie.spec (λ c κs. search needs) (λ c. search needs) (λ c. search needs) (λ c κs. search needs) returns (λ c κs. search needs) (λ c. search needs) (λ c. search needs) (λ c κs. search needs) (λ c. search needs)
     returns-2 (λ c. search needs) (λ c. search needs) part-locate-loaded-end locate-loaded-requires clear-front-requires (λ c. search needs) (λ c. search needs) returns-3)
