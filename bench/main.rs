@@ -1,11 +1,12 @@
 //! One call of a service under callgrind: `bench SIDE SERVICE FAMILY SAMPLES [PATTERN [KIND]]`. SIDE is `library` or `rust`; SERVICE is `build`,
 //! `check`, `read`, `copied` (reading, beside a Rust that copies the text), `extract` (the whole text), `count`, `locate`, `cuts` (the live cuts of
-//! the pattern that a search tries), `lyndon_length` (at the first position), `lyndon_array`, `to_signed` (of the former table), or `doubling`: the check of a table of SAMPLES
+//! the pattern that a search tries), `compared` (how many pairs of samples are compared to list them), `lyndon_length` (at the first position), `lyndon_array`, `to_signed` (of the former table), or `doubling`: the check of a table of SAMPLES
 //! rules that double. FAMILY 100 + m is a block of m random bytes, repeated. The pattern is the PATTERN samples in the middle of the text; with the KIND `nested`
 //! so many nested samples; with @i as KIND so many from position i on; and with a number k so many that are a^k, then b up to the last one, and a. It prints the answer, the number of tests, and a
 //! checksum of each lent slice afterwards, which `bench/run` compares between the sides. The lent slices hold other values before the call.
 
 mod baseline;
+mod compared;
 #[path = "../tests/former.rs"]
 mod former;
 #[allow(dead_code)]
@@ -108,6 +109,9 @@ fn main() {
         _ => table_of(&text),
     };
     let pattern = pattern(&text, number(5), args.get(6).map(String::as_str));
+    if service == "compared" {
+        return println!("{}", compared::compared(&pattern));
+    }
     let given = Given { service, text, table, pattern };
     let mut lent = lent();
     let measured = if args[1] == "library" { measured_library } else { measured_rust };

@@ -8,31 +8,80 @@ const FOUND: usize = 6656;
 const PATTERN: usize = 8960;
 const CUTS: usize = 11008;
 
-/// The run that starts at a place, as far as it goes: the place a copy before its end, and its end.
-fn scan(pattern: &[u8], start: usize) -> (usize, usize) {
-    let (mut back, mut end) = (start, start + 1);
-    while end < pattern.len() {
-        let (a, b) = (rank_of(at(pattern, back)), rank_of(at(pattern, end)));
-        if b < a {
-            return (back, end);
-        }
-        if a == b {
-            back += 1;
-        } else {
-            back = start;
-        }
-        end += 1;
-    }
-    (back, end)
+/// A sample of a pattern: a byte, or one whose comparisons are counted.
+pub trait Sample: Copy + PartialEq {
+    fn rank(self) -> u32;
 }
 
-/// The place behind the whole copies of a run.
-fn behind(start: usize, back: usize, end: usize) -> usize {
-    let mut place = start;
-    while place <= back {
-        place += end - back;
+impl Sample for u8 {
+    fn rank(self) -> u32 {
+        rank_of(self)
     }
-    place
+}
+
+/// The first index at which two tails differ, or the shorter one's length where there is none. The samples before `known` are known to agree.
+fn first_difference<S: Sample>(x: &[S], y: &[S], known: usize) -> usize {
+    let short = x.len().min(y.len());
+    let mut i = known;
+    loop {
+        if i == short {
+            break short;
+        }
+        if at(x, i) != at(y, i) {
+            break i;
+        }
+        i += 1;
+    }
+}
+
+/// A run: its start, the place a copy before its end, its end, and the place behind its whole copies.
+type Run = (usize, usize, usize, usize);
+
+/// The run that starts at a place, as far as it goes.
+fn scan<S: Sample>(pattern: &[S], start: usize) -> Run {
+    let x = tail(pattern, start);
+    let mut word = 1;
+    while word < x.len() {
+        let y = tail(x, word);
+        if at(x, 0) == at(y, 0) {
+            let d = first_difference(x, y, 1);
+            if !grows(x, y, d) {
+                return run_of(start, word, d);
+            }
+            word += d + 1;
+        } else {
+            if !grows(x, y, 0) {
+                return run_of(start, word, 0);
+            }
+            word += 1;
+        }
+    }
+    run_of(start, word, 0)
+}
+
+fn tail<S: Sample>(s: &[S], i: usize) -> &[S] {
+    unsafe { s.get_unchecked(i..) }
+}
+
+/// Whether a word grows by what stands up to the first difference d of the tail x from its start and the tail y from behind it.
+fn grows<S: Sample>(x: &[S], y: &[S], d: usize) -> bool {
+    if d == y.len() {
+        return false;
+    }
+    at(x, d).rank() < at(y, d).rank()
+}
+
+/// The run of a word of so many samples from `start` on, and `more` samples that repeat it.
+fn run_of(start: usize, word: usize, more: usize) -> Run {
+    (start, start + more, start + word + more, start + copies(word, more) * word)
+}
+
+/// How many whole copies of a word stand in it and `more` samples that repeat it.
+fn copies(word: usize, more: usize) -> usize {
+    if more < word {
+        return 1;
+    }
+    1 + unsafe { more.checked_div(word).unwrap_unchecked() }
 }
 
 /// Writes a cut behind the n that stand at the front, if it is listed. Answers how many stand there then.
@@ -45,8 +94,8 @@ fn append(cuts: &mut [u32], n: usize, cut: usize, listed: bool) -> usize {
 }
 
 /// The same for the listed cuts of a run: where it reaches the end of m samples its start, and also the start of its last copy if that is
-/// another one and the copy reaches the end. `next` is the place behind its whole copies.
-fn append_run(cuts: &mut [u32], n: usize, (start, back, end): (usize, usize, usize), next: usize, m: usize) -> usize {
+/// another one and the copy reaches the end.
+fn append_run(cuts: &mut [u32], n: usize, (start, back, end, next): Run, m: usize) -> usize {
     if end < m {
         return n;
     }
@@ -55,14 +104,13 @@ fn append_run(cuts: &mut [u32], n: usize, (start, back, end): (usize, usize, usi
 }
 
 /// Writes the listed cuts of a pattern at the front of a slice. Answers how many there are.
-fn list(pattern: &[u8], cuts: &mut [u32]) -> usize {
+pub fn list<S: Sample>(pattern: &[S], cuts: &mut [u32]) -> usize {
     let m = pattern.len();
     let (mut start, mut n) = (1, 0);
     while start < m {
-        let (back, end) = scan(pattern, start);
-        let next = behind(start, back, end);
-        n = append_run(cuts, n, (start, back, end), next, m);
-        start = next;
+        let run = scan(pattern, start);
+        n = append_run(cuts, n, run, m);
+        start = run.3;
     }
     n
 }

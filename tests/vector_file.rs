@@ -52,7 +52,7 @@ fn items<'a>(lines: &[&'a str]) -> Result<Items<'a>, String> {
 }
 
 fn test(mut items: Items) -> Result<Test, String> {
-    if take(&mut items, "stage")? != "4" {
+    if take(&mut items, "stage")? != "5" {
         return Err("an unknown stage".into());
     }
     let test = match take(&mut items, "call")? {

@@ -1,9 +1,9 @@
 -- The listed cuts passed so far: that there is room for those of a run more, and what a slice holds once they are written. At the scan's end they are
 -- all of the pattern's (`all-passed`).
-use mathlib.Core.Path.{_≡_, sym, _∙_, ap, subst}
+use mathlib.Core.Path.{_≡_, sym, _∙_, ap}
 use mathlib.Core.Bool.{Bool}
 use mathlib.Core.List.{List, [], _∷_, _++_, map, append-assoc, append-nil}
-use Prim.Native.Nat.{ℕ, _+_, _-_, _≤_, _<_}
+use Prim.Native.Nat.{ℕ, _+_, _-_, _≤_}
 use native.Mathlib.Omega.{arith}
 use lib.ListN.{length, set, length-append, length-map}
 use Rattle.definitions.specs.declared.Order.{Order}
@@ -13,7 +13,7 @@ use Rattle.definitions.specs.Occurrences.{isListed, listedCuts, patternCuts}
 use Rattle.lists.specs.Numbers.{below-append, power-le}
 use Rattle.lists.specs.Lists.{placed-more}
 use Rattle.lyndon.specs.Listed.{Largest, listed-bound}
-use Rattle.runs.specs.Runs.{Stopped, Reached, Copies, runCuts}
+use Rattle.runs.specs.Runs.{Reached, Scanned, runCuts}
 use Rattle.runs.proofs.Scanning.{none-before, scan-done}
 use Rattle.runs.proofs.Samples.{samples-left}
 use Rattle.cuts.specs.Appending.{Appended}
@@ -73,25 +73,25 @@ appended-both l m n i j w v z a b front old e q h =
 
 -- ---- a run more
 
-module _ (o : Order) (p : List ℕ) (start rs back end place : ℕ) (same : rs ≡ start) (reached : Reached (map (rankOf o) p) start)
-    (stopped : Stopped (map (rankOf o) p) start back end) (copies : Copies rs back end place) (low : back < place) (high : place ≤ end) where
+module _ (o : Order) (p : List ℕ) (start rs back end next : ℕ) (same : rs ≡ start) (reached : Reached (map (rankOf o) p) start)
+    (run : Scanned (map (rankOf o) p) start back end next) where
   -- what is passed then
-  further : Reached (map (rankOf o) p) place × (passed o p place ≡ passed o p start ++ runCuts rs back end place (length p))
+  further : Reached (map (rankOf o) p) next × (passed o p next ≡ passed o p start ++ runCuts rs back end next (length p))
   further =
-      let (a, b) = samples-left o p start back end place reached stopped (subst (λ (i : ℕ). Copies i back end place) same copies) low high in
-      (a, b ∙ ap (λ (i : ℕ). passed o p start ++ runCuts i back end place (length p)) (sym same))
+      let (a, b) = samples-left o p start back end next reached run in
+      (a, b ∙ ap (λ (i : ℕ). passed o p start ++ runCuts i back end next (length p)) (sym same))
 
   pub run-inside : end ≤ length p
-  run-inside = omega (arith, stopped .running .inside, length-map p (rankOf o))
+  run-inside = omega (arith, run .stopped .running .inside, length-map p (rankOf o))
 
   -- there is room for its cuts
-  pub run-room : (n m : ℕ) → n ≡ length (passed o p start) → length (patternCuts o p) ≤ m → n + length (runCuts rs back end place (length p)) ≤ m
+  pub run-room : (n m : ℕ) → n ≡ length (passed o p start) → length (patternCuts o p) ≤ m → n + length (runCuts rs back end next (length p)) ≤ m
   run-room n m e h =
-      omega (arith, run-inside, passed-most o p place (omega (arith, run-inside)), simp length-append at (ap length (further .1)))
+      omega (arith, run-inside, passed-most o p next (omega (arith, run-inside, run .high)), simp length-append at (ap length (further .1)))
 
   pub run-written : (n r : ℕ) (old w v : List ℕ) → length (patternCuts o p) ≤ length old → n ≡ length (passed o p start) → w ≡ placed (passed o p start) old
-      → Appended (runCuts rs back end place (length p)) n r w v
-      → Reached (map (rankOf o) p) place × (r ≡ length (passed o p place)) × (v ≡ placed (passed o p place) old)
+      → Appended (runCuts rs back end next (length p)) n r w v
+      → Reached (map (rankOf o) p) next × (r ≡ length (passed o p next)) × (v ≡ placed (passed o p next) old)
   run-written n r old w v h e f a =
       let (x, y) = a (passed o p start) old f e (omega (arith, run-room n (length old) e h)) in
       (further .0, y ∙ ap length (sym (further .1)), x ∙ ap (λ (l : List ℕ). placed l old) (sym (further .1)))

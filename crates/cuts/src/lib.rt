@@ -1,7 +1,6 @@
 // The listed cuts of a pattern, written to a list of k + 1 words, where k is the largest whole number for which 2 to the power k is at most the pattern's length.
 use definitions::Order;
 use runs::Run;
-use runs::behind;
 use runs::scan;
 use slices::put;
 ghost use mathlib.Core.Path.{_≡_};
@@ -34,32 +33,30 @@ pub fn list(order: Order, pattern: &[u8], cuts: &mut [u32]) -> usize
     let mut n = 0;
     while start < m {
         let run = scan(order, pattern, start);
-        let next = behind(run);
-        n = append_run(cuts, n, run, next, m);
-        start = next;
+        n = append_run(cuts, n, run, m);
+        start = run.next;
     }
     n
 }
 
-// Writes the listed cuts of a run of a pattern of m samples behind the n that stand at the front; `place` is behind its whole copies. Answers how
-// many stand there then.
-fn append_run(cuts: &mut [u32], n: usize, run: Run, place: usize, m: usize) -> usize
-    requires { ⌜ (n + length (runCuts (run .start) (run .back) (run .end) place m) ≤ length (now cuts)) × (run .start < 2047) × (run .back < 2047) ⌝ }
-    ensures { λ r. ⌜ Appended (runCuts (run .start) (run .back) (run .end) place m) n r (now (cuts .entry)) (now (cuts .exit)) ⌝ }
+// Writes the listed cuts of a run of a pattern of m samples behind the n that stand at the front. Answers how many stand there then.
+fn append_run(cuts: &mut [u32], n: usize, run: Run, m: usize) -> usize
+    requires { ⌜ (n + length (runCuts (run .start) (run .back) (run .end) (run .next) m) ≤ length (now cuts)) × (run .start < 2047) × (run .back < 2047) ⌝ }
+    ensures { λ r. ⌜ Appended (runCuts (run .start) (run .back) (run .end) (run .next) m) n r (now (cuts .entry)) (now (cuts .exit)) ⌝ }
 {
     if run.end < m {
         return n;
     }
     put(cuts, n, run.start as u32);
-    append(cuts, n + 1, run.back, is_last_listed(run, place, m))
+    append(cuts, n + 1, run.back, is_last_listed(run, m))
 }
 
 // Whether the start of the last copy of a run that reaches the end of m samples is listed too: it is not the first copy, and nothing follows it.
-fn is_last_listed(run: Run, place: usize, m: usize) -> bool
-    ensures { λ r. ⌜ r ≡ ltb (run .start) (run .back) && eqb place m ⌝ }
+fn is_last_listed(run: Run, m: usize) -> bool
+    ensures { λ r. ⌜ r ≡ ltb (run .start) (run .back) && eqb (run .next) m ⌝ }
 {
     if run.start < run.back {
-        return place == m;
+        return run.next == m;
     }
     false
 }

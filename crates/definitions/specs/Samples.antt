@@ -1,7 +1,7 @@
 -- The samples of document 01 that are marked P, its live cuts, its two examples of a cut at a join, its table of `abab` for chair 40, tables that it says are
 -- foreign, some of its edges as outcomes of services, and what its program prints; the arrays of S-1; drives whose tables, cuts and lengths the order of S-2 changes; patterns
--- with live cuts that S-3 does not list; and the tests of S-4, in `abab` those of a rule that stands twice in the tree and of one whose left half is the mark:
--- by computation, under one claim.
+-- with live cuts that S-3 does not list; and the tests of S-4, in `abab` those of a rule that stands twice in the tree and of one whose left half is the mark;
+-- first differences of tails (S-5): by computation, under one claim.
 use Prim.Native.Nat.{ℕ, _+_, _-_}
 use mathlib.Core.Path.{_≡_, refl}
 use mathlib.Core.Bool.{Bool, true, false, cond, _&&_}
@@ -12,7 +12,7 @@ use Rattle.definitions.specs.declared.Answer.{Answer}
 use Rattle.definitions.specs.declared.ReadAnswer.{ReadAnswer}
 use Rattle.definitions.specs.declared.ReadAnswer.the-variants as read
 use Rattle.definitions.specs.declared.Answer.the-variants.{Done, Refused}
-use Rattle.definitions.specs.Words.{every, below, least, placed, same, begins, lexlt, lyndon, cutOf, greatest, lyndonLength, lyndonArray}
+use Rattle.definitions.specs.Words.{every, below, least, placed, same, begins, lexlt, firstDifference, lyndon, cutOf, greatest, lyndonLength, lyndonArray}
 use Rattle.definitions.specs.Grammar.{leftOf, rightOf, word, split, lyndonTree, indexOf, meet, visit, order, ruleOf, rulesOf}
 use Rattle.definitions.specs.Table.{rankOf, byteOf, numberOfRank, rankOfNumber, marked, wordOf, kindOf, numberOf, ruleWords, words, tableOf, badFirst, badSecond, badWord, stringOf, strings, ruleString, isPair, leftHalf, rightHalf, spelled, textOf, chairOf, isDrive, isChair, isTable}
 use Rattle.definitions.specs.Occurrences.{occurrences, notGreaterAtDifference, isLive, liveCuts, wordAgain, isListed, listedCuts, patternCuts, straddles, straddling, cutIn, cutAt, fitsJoin, isTested, Test, testsOf, testsBelow, tests}
@@ -82,6 +82,8 @@ pub data Sample : Type 0 where
   joins : List ℕ → ℕ → List ℕ → List ℕ → Sample
   -- in the drive's table the search for the pattern makes just these tests: rule and cut, rule and cut, ..
   tries : List ℕ → List ℕ → List ℕ → Sample
+  -- the tails of the pattern from these two places on differ first at this index
+  differ : List ℕ → ℕ → ℕ → ℕ → Sample
   -- the Lyndon array of the drive
   lengths : List ℕ → List ℕ → Sample
   -- the ranks of the bytes
@@ -144,6 +146,7 @@ holds (joins text r p places) =
     let q = map (rankOf sampleOrder) p in
     isPair t r && (same (straddling q u v) places && same (cutAt q (patternCuts sampleOrder p) u v) places)
 holds (tries text p l) = same (flat (tests sampleOrder (tableOf sampleOrder text 40) p)) l
+holds (differ p i j d) = eqb (firstDifference (drop i p) (drop j p)) d
 holds (lengths text l) = same (lyndonArray (map (rankOf sampleOrder) text)) l
 holds (ranks bytes l) = same (map (rankOf sampleOrder) bytes) l
 holds (table text chair t) = same (tableOf sampleOrder text chair) t
@@ -213,6 +216,14 @@ samples =
     ∷ tries (a ∷ a ∷ a ∷ b ∷ a ∷ a ∷ a ∷ b ∷ []) (a ∷ a ∷ a ∷ a ∷ []) (5 ∷ 1 ∷ 6 ∷ 1 ∷ 7 ∷ 1 ∷ 7 ∷ 3 ∷ [])
     ∷ tries (a ∷ []) (a ∷ a ∷ []) (2 ∷ 1 ∷ [])
     ∷ tries [] (a ∷ a ∷ []) []
+    ∷ differ (a ∷ a ∷ b ∷ a ∷ a ∷ a ∷ []) 0 3 2
+    ∷ differ (a ∷ a ∷ b ∷ a ∷ a ∷ a ∷ []) 3 0 2
+    ∷ differ (a ∷ a ∷ b ∷ a ∷ a ∷ a ∷ []) 0 2 0
+    ∷ differ abab 0 2 2
+    ∷ differ abab 2 0 2
+    ∷ differ abab 1 4 0
+    ∷ differ (a ∷ 0 ∷ []) 1 2 0
+    ∷ differ abab 1 1 3
     ∷ lengths abab (2 ∷ 1 ∷ 2 ∷ 1 ∷ [])
     ∷ lengths (a ∷ a ∷ b ∷ []) (3 ∷ 2 ∷ 1 ∷ [])
     ∷ lengths (a ∷ a ∷ a ∷ a ∷ []) (1 ∷ 1 ∷ 1 ∷ 1 ∷ [])
@@ -358,5 +369,5 @@ samples =
 
 -- every sample holds
 pub samples-hold : all samples ≡ true
-unfolding edges holds all samples parts readOutcome searchOf replyOf searchReplyOf every below least placed same begins lexlt lyndon cutOf greatest lyndonLength lyndonArray leftOf rightOf word split lyndonTree indexOf meet visit order ruleOf rulesOf rankOf byteOf numberOfRank rankOfNumber marked wordOf kindOf numberOf ruleWords words tableOf badFirst badSecond badWord stringOf strings ruleString isPair leftHalf rightHalf spelled textOf chairOf isDrive isChair isTable occurrences notGreaterAtDifference isLive liveCuts wordAgain isListed listedCuts patternCuts straddles straddling cutIn cutAt fitsJoin isTested testsOf testsBelow tests flat firstMet outcome outcomeOf cleared slicesAfter last tableChecks patternChecks buildService checkService readService extractService countService locateService cutsService lyndonLengthService lyndonArrayService convertOrderService digits digitsUpTo digitCount decimal line named decimalLines refusedLine printed motifOf driveOf foundLines motifOutput
+unfolding edges holds all samples parts readOutcome searchOf replyOf searchReplyOf every below least placed same begins lexlt firstDifference lyndon cutOf greatest lyndonLength lyndonArray leftOf rightOf word split lyndonTree indexOf meet visit order ruleOf rulesOf rankOf byteOf numberOfRank rankOfNumber marked wordOf kindOf numberOf ruleWords words tableOf badFirst badSecond badWord stringOf strings ruleString isPair leftHalf rightHalf spelled textOf chairOf isDrive isChair isTable occurrences notGreaterAtDifference isLive liveCuts wordAgain isListed listedCuts patternCuts straddles straddling cutIn cutAt fitsJoin isTested testsOf testsBelow tests flat firstMet outcome outcomeOf cleared slicesAfter last tableChecks patternChecks buildService checkService readService extractService countService locateService cutsService lyndonLengthService lyndonArrayService convertOrderService digits digitsUpTo digitCount decimal line named decimalLines refusedLine printed motifOf driveOf foundLines motifOutput
 samples-hold = refl

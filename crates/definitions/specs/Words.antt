@@ -1,9 +1,10 @@
--- Strings of symbols, their order, and Lyndon words (document 01, "Words on which the grammar stands"); the longest of them at a position (document 02, S-1).
+-- Strings of symbols, their order, and Lyndon words (document 01, "Words on which the grammar stands"); the longest of them at a position (document 02, S-1);
+-- the first difference of two strings (S-5).
 -- A string is a list of symbols; a symbol is a natural number, and symbols compare as numbers.
-use Prim.Native.Nat.{ℕ, zero, suc}
+use Prim.Native.Nat.{ℕ, zero, suc, min}
 use mathlib.Core.Bool.{Bool, true, false, cond, not, _&&_, _||_}
 use mathlib.Core.List.{List, [], _∷_, _++_, map}
-use lib.ListN.{length, take, drop}
+use lib.ListN.{length, take, drop, getD}
 use lib.Dec.{ltb, eqb}
 
 -- ---- numbers below a bound, and the front of a slice
@@ -52,6 +53,10 @@ unfoldable pub lexlt : List ℕ → List ℕ → Bool
 lexlt x [] = false
 lexlt [] (b ∷ y) = true
 lexlt (a ∷ x) (b ∷ y) = ltb a b || (eqb a b && lexlt x y)
+
+-- the first difference of x and y: the least index at which their symbols differ, and the shorter one's length where there is none
+unfoldable pub firstDifference : List ℕ → List ℕ → ℕ
+firstDifference x y = least (λ i. not (eqb (getD x i 0) (getD y i 0))) (min (length x) (length y))
 
 -- ---- Lyndon words
 

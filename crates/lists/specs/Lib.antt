@@ -3,6 +3,7 @@ pub mod Numbers
 pub mod Lists
 pub mod Members
 pub mod Strings
+pub mod FirstDifference
 pub mod Sameness
 pub mod Parts
 pub mod Newest

@@ -219,7 +219,7 @@ least-step f n = go (eqb (least f n) n) refl (f n) refl
     go true e true d = inl (rw (e, d))
     go true e false d = inr (rw (e, d), eqb-true (least f n) n e, d)
 
-least-le : (f : ℕ → Bool) (n : ℕ) → least f n ≤ n
+pub least-le : (f : ℕ → Bool) (n : ℕ) → least f n ≤ n
 unfolding least
 least-le f zero = omega arith
 least-le f (suc n) = let h = least-le f n in ⊎-elim (λ e. omega arith) (λ e. omega (arith, e .0)) (least-step f n)
@@ -234,7 +234,7 @@ least-before f (suc n) k h = ⊎-elim
     (least-step f n)
 
 -- at it the test holds, where it is below the bound
-least-holds : (f : ℕ → Bool) (n : ℕ) → least f n < n → f (least f n) ≡ true
+pub least-holds : (f : ℕ → Bool) (n : ℕ) → least f n < n → f (least f n) ≡ true
 unfolding least
 least-holds f zero h = absurd (omega arith)
 least-holds f (suc n) h = ⊎-elim

@@ -1,20 +1,22 @@
 -- Laws of `Dif`, smaller at the first difference: a strict order, kept by fronts and by what follows.
 -- Where a tail is not greater at a difference than another, the other is not smaller at one (`not-smaller`): a cut is live exactly
--- when no tail from a cut on is smaller at a difference than its own (`live-best`).
+-- when no tail from a cut on is smaller at a difference than its own (`live-best`). By its index, the first difference is that of the definition (`dif-first`).
 use mathlib.Core.Path.{_≡_, refl, sym, _∙_, ap, ap₂, subst}
 use mathlib.Core.Bool.{true, _||_}
 use mathlib.Core.Logic.{_⊎_, inl, inr, _↔_}
 use mathlib.Core.List.{List, [], _∷_, _++_, append-nil}
 use Prim.Native.Nat.{ℕ, zero, suc, _≤_, _<_}
 use native.Mathlib.Omega.{arith}
-use lib.ListN.{length, take, drop, length-append, take-append-drop, drop-of-length-le}
+use lib.ListN.{length, take, drop, getD, length-append, take-append-drop, drop-of-length-le}
+use lib.Seq.{split-at, take-all}
 use lib.Dec.{ltb, eqb}
 use borrow.Author.Tests.{ltb-true}
-use Rattle.definitions.specs.Words.{every}
+use Rattle.definitions.specs.Words.{every, firstDifference}
 use Rattle.definitions.specs.Occurrences.{notGreaterAtDifference, isLive}
 use Rattle.lists.specs.Bools.{and-left}
 use Rattle.lists.specs.Numbers.{split-le, split-lt}
 use Rattle.lists.specs.Lists.{Extends, extends-self}
+use Rattle.lists.specs.FirstDifference.{difference-fronts, difference-unlike}
 use Rattle.lyndon.specs.Lexical.{Dif, Compare, equal, prefix, extends, smaller, greater, compared, dif-append, dif-lt, lt-irrefl, lt-asym}
 use Rattle.lyndon.specs.Cuts.{NotGreaterAtDifference, not-greater, Live, live-test}
 
@@ -127,6 +129,43 @@ pub not-smaller : (x y : List ℕ) → NotGreaterAtDifference x y → Dif y x �
 not-smaller x y (inl (r, e)) d = dif-extended x r (subst (λ (t : List ℕ). Dif t x) e d)
 not-smaller x y (inr (inl (r, e))) d = dif-extends y r (subst (λ (t : List ℕ). Dif y t) e d)
 not-smaller x y (inr (inr l)) d = dif-asym x y l d
+
+-- ---- the first difference, by its index
+
+module _ (x y : List ℕ) where
+  abbrev at : ℕ
+  at = firstDifference x y
+
+  -- both begin with the same symbols up to there
+  fronts : take at x ≡ take at y
+  fronts = difference-fronts x y
+
+  left-whole : at < length x → x ≡ take at x ++ (getD x at 0 ∷ drop (suc at) x)
+  left-whole h = split-at x at 0 h
+
+  right-whole : at < length y → y ≡ take at x ++ (getD y at 0 ∷ drop (suc at) y)
+  right-whole h = split-at y at 0 h ∙ ap (λ (t : List ℕ). t ++ (getD y at 0 ∷ drop (suc at) y)) (sym fronts)
+
+  -- where one ends there, it is a prefix of the other
+  left-ends : length x ≤ at → y ≡ x ++ drop at y
+  left-ends h = sym (take-append-drop at y) ∙ ap (λ (t : List ℕ). t ++ drop at y) (sym fronts ∙ take-all at x h)
+
+  right-ends : length y ≤ at → x ≡ y ++ drop at x
+  right-ends h = sym (take-append-drop at x) ∙ ap (λ (t : List ℕ). t ++ drop at x) (fronts ∙ take-all at y h)
+
+  -- smaller at the first difference: it lies in both strings, and the symbol that x has there is the smaller one
+  pub dif-first : Dif x y ↔ ((at < length x) × (at < length y) × (getD x at 0 < getD y at 0))
+  dif-first = (
+    λ d. split-le (length x) at
+        (λ h. absurd (dif-extends x (drop at y) (subst (λ (t : List ℕ). Dif x t) (left-ends h) d)))
+        (λ h. split-le (length y) at
+        (λ k. absurd (dif-extended y (drop at x) (subst (λ (t : List ℕ). Dif t y) (right-ends k) d)))
+        (λ k. split-lt (getD x at 0) (getD y at 0)
+        (λ l. (h, k, l))
+        (λ e. absurd (difference-unlike x y h k e))
+        (λ l. absurd (dif-asym x y d (dif-at (right-whole k) (left-whole h) (dif-behind (take at x) (getD y at 0) (getD x at 0) (drop (suc at) y) (drop (suc at) x) l)))))),
+    λ (h, k, l). dif-at (left-whole h) (right-whole k) (dif-behind (take at x) (getD x at 0) (getD y at 0) (drop (suc at) x) (drop (suc at) y) l),
+  )
 
 -- ---- live cuts
 

@@ -1,4 +1,4 @@
--- How a run begins, grows by a symbol, is broken, reaches the end, and goes on without its first copy.
+-- How a run begins, goes on, is broken, reaches the end, becomes one word, and goes on without its first copy.
 -- That a greater symbol makes all of the run one Lyndon word is shown suffix by suffix, each from the one a period before it.
 use mathlib.Core.Path.{_≡_, refl, sym, _∙_, ap, subst}
 use mathlib.Core.List.{List, [], _∷_, _++_}
@@ -17,6 +17,10 @@ use Rattle.lyndon.specs.Differences.{dif-behind, dif-raise}
 pub run-first : (s : List ℕ) → 0 < length s → Repeats s 1 0
 run-first s h =
     record { filled = omega arith; inside = omega arith; least = λ d p q. absurd (omega (arith, simp length-take at q)); again = refl }
+
+-- a word, and the symbols behind it that repeat it
+pub run-agreed : (s : List ℕ) (period more : ℕ) → Repeats s period 0 → period + more ≤ length s → take more (drop period s) ≡ take more s → Repeats s period more
+run-agreed s period more r h e = record { filled = r .filled; inside = h; least = r .least; again = e }
 
 -- a string that begins with such a word is smaller than its tails from inside the word on
 pub least-tail : (s : List ℕ) (n : ℕ) → n ≤ length s → Least (take n s) → (d : ℕ) → 0 < d → d < n → Dif s (drop d s)
@@ -38,20 +42,6 @@ module _ (s : List ℕ) (period more : ℕ) (run : Repeats s period more) where
       sym (take-append-drop more (drop period s))
       ∙ ap (λ (x : List ℕ). x ++ drop more (drop period s)) (run .again)
       ∙ ap (λ (x : List ℕ). take more s ++ x) (drop-drop more period s)
-
-  -- the next symbol is the one it is beside
-  pub run-equal : period + more < length s → getD s (period + more) 0 ≡ getD s more 0 → Repeats s period (suc more)
-  run-equal h e =
-      record {
-        filled = run .filled;
-        inside = omega (arith, add-suc period more);
-        least = run .least;
-        again =
-            take-suc (drop period s) more 0 (simp length-drop (omega arith))
-            ∙ ap (λ (x : List ℕ). x ++ (getD (drop period s) more 0 ∷ [])) (run .again)
-            ∙ ap (λ (a : ℕ). take more s ++ (a ∷ [])) (getD-drop period s more 0 ∙ e)
-            ∙ sym (take-suc s more 0 (omega arith));
-      }
 
   -- it is smaller: what stands behind the first copy is smaller than all, at a difference
   pub run-broken : period + more < length s → getD s (period + more) 0 < getD s more 0 → Dif (drop period s) s

@@ -1,4 +1,4 @@
--- The scan at its positions in the pattern: a run begins and grows (`scan-first`, `scan-equal`, `scan-greater`). The scan starts at 1 (`scan-start`), leaves the
+-- The scan at its positions in the pattern: a run begins, goes on and becomes one word (`scan-first`, `scan-agreed`, `scan-greater`). The scan starts at 1 (`scan-start`), leaves the
 -- whole copies of a run, one after the other, with the run's listed cuts (`scan-left`), and at the end has passed every listed cut (`scan-done`).
 use mathlib.Core.Path.{_≡_, sym, _∙_, ap, ap₂, subst}
 use mathlib.Core.Bool.{Bool, true, false, cond, _&&_}
@@ -18,7 +18,7 @@ use Rattle.lyndon.specs.Lexical.{Dif}
 use Rattle.lyndon.specs.Differences.{live-best, live-from}
 use Rattle.lyndon.specs.Listed.{listed-test, listed-apart}
 use Rattle.runs.specs.Runs.{Repeats, Running, Stopped, Best, LiveFrom, Reached, Copies, no-copy, copy-more, runCuts}
-use Rattle.runs.proofs.Runs.{run-first, run-equal, run-greater, run-broken, run-ended, run-behind}
+use Rattle.runs.proofs.Runs.{run-first, run-agreed, run-greater, run-broken, run-ended, run-behind}
 use Rattle.runs.proofs.Starts.{inner, broken-first, broken-rest, ended-first, ended-rest}
 
 -- ---- a run at its positions
@@ -34,6 +34,24 @@ scan-first s start h =
           let m : 0 ≡ start - start = omega arith in
           subst (λ (n : ℕ). Repeats (drop start s) n (start - start)) p
           (subst (λ (n : ℕ). Repeats (drop start s) 1 n) m (run-first (drop start s) (simp length-drop (omega arith))));
+    }
+
+-- a word of the symbols up to `end` goes on for d symbols more
+pub scan-agreed : (s : List ℕ) (start end d : ℕ) → Running s start start end → end + d ≤ length s → take d (drop end s) ≡ take d (drop start s) → Running s start (start + d) (end + d)
+scan-agreed s start end d r h e =
+    record {
+      low = omega arith;
+      high = omega (arith, r .high);
+      inside = h;
+      run =
+          let z : start - start ≡ 0 = omega arith in
+          let p : end - start ≡ end + d - (start + d) = omega arith in
+          let m : d ≡ start + d - start = omega arith in
+          let b : start + (end - start) ≡ end = omega (arith, r .high) in
+          subst (λ (n : ℕ). Repeats (drop start s) n (start + d - start)) p
+          (subst (λ (n : ℕ). Repeats (drop start s) (end - start) n) m
+          (run-agreed (drop start s) (end - start) d (subst (λ (n : ℕ). Repeats (drop start s) (end - start) n) z (r .run)) (simp length-drop (omega (arith, r .high)))
+          (ap (take d) (drop-drop (end - start) start s ∙ ap (λ (i : ℕ). drop i s) b) ∙ e)));
     }
 
 module _ (s : List ℕ) (start back end : ℕ) (r : Running s start back end) where
@@ -56,19 +74,6 @@ module _ (s : List ℕ) (start back end : ℕ) (r : Running s start back end) wh
 
   at-back : getD t more 0 ≡ getD s back 0
   at-back = let e : start + more ≡ back = omega (arith, r .low) in getD-drop start s more 0 ∙ ap (λ (i : ℕ). getD s i 0) e
-
-  pub scan-equal : end < length s → getD s end 0 ≡ getD s back 0 → Running s start (back + 1) (end + 1)
-  scan-equal h e =
-      record {
-        low = omega (arith, r .low);
-        high = omega (arith, r .high);
-        inside = omega arith;
-        run =
-            let p : period ≡ end + 1 - (back + 1) = omega arith in
-            let m : suc more ≡ back + 1 - start = omega (arith, r .low) in
-            subst (λ (n : ℕ). Repeats t n (back + 1 - start)) p
-            (subst (λ (n : ℕ). Repeats t period n) m (run-equal t period more (r .run) (next-inside h) (at-end ∙ e ∙ sym at-back)));
-      }
 
   pub scan-greater : end < length s → getD s back 0 < getD s end 0 → Running s start start (end + 1)
   scan-greater h l =

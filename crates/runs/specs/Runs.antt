@@ -51,6 +51,13 @@ pub data Copies (start back end : ℕ) : ℕ → Type 0 where
   no-copy : Copies start back end start
   copy-more : (c : ℕ) → Copies start back end c → c ≤ back → Copies start back end (c + (end - back))
 
+-- such a run that goes no further, and the place behind its whole copies
+pub record Scanned (s : List ℕ) (start back end next : ℕ) : Type 0 where
+  pub stopped : Stopped s start back end
+  pub copies : Copies start back end next
+  pub low : back < next
+  pub high : next ≤ end
+
 -- the listed cuts of the run in n symbols, `place` being behind its whole copies: if it reaches the end its start, and the start of its last copy, if
 -- that is another one and nothing follows it
 unfoldable pub runCuts : ℕ → ℕ → ℕ → ℕ → ℕ → List ℕ

@@ -18,7 +18,7 @@ returns : tie.Need-returns
 returns c =
     let a = c .before .before .before .args in
     let r = a .run in
-    subst (λ (l : List ℕ). Appended l (a .n) (a .n) (a .cuts .now) (a .cuts .now)) (sym (run-cuts-broken (r .start) (r .back) (r .end) (a .place) (a .m) (c .if1 .taken)))
+    subst (λ (l : List ℕ). Appended l (a .n) (a .n) (a .cuts .now) (a .cuts .now)) (sym (run-cuts-broken (r .start) (r .back) (r .end) (r .next) (a .m) (c .if1 .taken)))
     (appended-none (a .n) (a .cuts .now))
 
 -- a run that reaches the end has room for its start
@@ -31,7 +31,7 @@ put-requires c κs =
     let s = i .before .before .before in
     let a = s .args in
     let r = a .run in
-    room (r .start) (r .back) (r .end) (a .place) (a .m) (a .n) (length (a .cuts .now)) (i .if1 .left) (s .pre .0)
+    room (r .start) (r .back) (r .end) (r .next) (a .m) (a .n) (length (a .cuts .now)) (i .if1 .left) (s .pre .0)
 
 append-requires : tie.Need-append-requires
 append-requires c κs =
@@ -44,7 +44,7 @@ append-requires c κs =
         arith,
         s .pre .0,
         p .put .kept .0,
-        ap length (run-cuts-ended (r .start) (r .back) (r .end) (a .place) (a .m) (i .if1 .left) (c .is-last-listed .result) (c .is-last-listed .ensures)),
+        ap length (run-cuts-ended (r .start) (r .back) (r .end) (r .next) (a .m) (i .if1 .left) (c .is-last-listed .result) (c .is-last-listed .ensures)),
       ),
       s .pre .2,
     )
@@ -59,7 +59,7 @@ returns-2 c =
     let r = a .run in
     let b = t .is-last-listed .result in
     subst (λ (l : List ℕ). Appended l (a .n) (f .append .result) (a .cuts .now) (f .append .last .0))
-    (sym (run-cuts-ended (r .start) (r .back) (r .end) (a .place) (a .m) (i .if1 .left) b (t .is-last-listed .ensures)))
+    (sym (run-cuts-ended (r .start) (r .back) (r .end) (r .next) (a .m) (i .if1 .left) b (t .is-last-listed .ensures)))
     (appended-both (r .start ∷ []) (cond b (r .back ∷ []) []) (a .n) (a .n + 1) (f .append .result) (a .cuts .now) (p .put .last .0) (f .append .last .0)
     (subst (λ (v : List ℕ). Appended (r .start ∷ []) (a .n) (a .n + 1) (a .cuts .now) v) (sym (p .put .ensures)) (appended-one (a .n) (r .start) (a .cuts .now)))
     (f .append .ensures))

@@ -4,7 +4,7 @@ use Rattle.cuts.proofs.is_last_listed.Statement.{statement}
 use Rattle.cuts.proofs.is_last_listed.Tie as tie
 
 returns : tie.Need-returns
-returns c = simp (lt-ltb _ _ (c .if1 .taken))
+returns c = simp (lt-ltb _ _ (c .before .if1 .taken))
 
 returns-2 : tie.Need-returns-2
 returns-2 c = simp (le-ltb _ _ (c .if1 .left))

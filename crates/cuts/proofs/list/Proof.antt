@@ -27,48 +27,44 @@ loop-holds c =
     let none = none-passed (a .order) (a .pattern .now) in
     (refl, refl, scan-start (map (rankOf (a .order)) (a .pattern .now)), ap length (sym none), sym (ap (λ (l : List ℕ). placed l (a .cuts .now)) none ∙ placed-none (a .cuts .now)))
 
-behind-requires : tie.Need-behind-requires Inv-loop μ-loop
-behind-requires c κs = let (e, t) = c .scan .ensures in (omega (arith, e, t .running .low), t .running .high)
+scan-requires : tie.Need-scan-requires Inv-loop μ-loop
+scan-requires c κs = let at = c .before in (omega (arith, c .loop-test .taken, at .loop .inv .0), at .before .before .before .pre .1)
 
 append-run-requires : tie.Need-append-run-requires Inv-loop μ-loop
 append-run-requires c κs =
-    let b = c .before in
-    let k = b .before in
+    let k = c .before in
     let at = k .before .before in
     let s = at .before .before .before in
     let a = s .args in
     let run = k .scan .result in
     let (e, t) = k .scan .ensures in
-    let (copies, low, high) = b .behind .ensures in
-    let inside = run-inside (a .order) (a .pattern .now) (at .loop .start) (run .start) (run .back) (run .end) (b .behind .result) e (at .loop .inv .2) t copies low high in (
+    let inside = run-inside (a .order) (a .pattern .now) (at .loop .start) (run .start) (run .back) (run .end) (run .next) e (at .loop .inv .2) t in (
       omega (
         arith,
         at .loop .inv .1,
-        run-room (a .order) (a .pattern .now) (at .loop .start) (run .start) (run .back) (run .end) (b .behind .result) e (at .loop .inv .2) t copies low high
+        run-room (a .order) (a .pattern .now) (at .loop .start) (run .start) (run .back) (run .end) (run .next) e (at .loop .inv .2) t
             (at .loop .n) (length (a .cuts .now)) (at .loop .inv .3) (s .pre .0),
       ),
-      omega (arith, inside, e, t .running .low, t .running .high, s .pre .1),
-      omega (arith, inside, t .running .high, s .pre .1),
+      omega (arith, inside, e, t .stopped .running .low, t .stopped .running .high, s .pre .1),
+      omega (arith, inside, t .stopped .running .high, s .pre .1),
     )
 
 loop-less : tie.Need-loop-less Inv-loop μ-loop
 loop-less c =
-    let b = c .before .before .before .before in
-    let k = b .before in
-    omega (arith, k .before .loop-test .taken, b .behind .ensures, k .scan .ensures .1 .running .low)
+    let k = c .before .before .before .before in
+    let t = k .scan .ensures .1 in
+    omega (arith, k .before .loop-test .taken, t .low, t .stopped .running .low)
 
 loop-again : tie.Need-loop-again Inv-loop μ-loop
 loop-again c =
     let f = c .before .before in
-    let b = f .before .before in
-    let k = b .before in
+    let k = f .before .before in
     let at = k .before .before in
     let s = at .before .before .before in
     let a = s .args in
     let run = k .scan .result in
     let (e, t) = k .scan .ensures in
-    let (copies, low, high) = b .behind .ensures in
-    let (x, y, z) = run-written (a .order) (a .pattern .now) (at .loop .start) (run .start) (run .back) (run .end) (b .behind .result) e (at .loop .inv .2) t copies low high
+    let (x, y, z) = run-written (a .order) (a .pattern .now) (at .loop .start) (run .start) (run .back) (run .end) (run .next) e (at .loop .inv .2) t
     (at .loop .n) (f .append-run .result) (a .cuts .now) (at .loop .cuts) (f .append-run .last .0) (s .pre .0) (at .loop .inv .3) (at .loop .inv .4) (f .append-run .ensures) in
     (refl, f .append-run .kept .0 ∙ at .loop .inv .1, x, y, z)
 
@@ -85,4 +81,4 @@ returns c =
 pub list-spec : {M : Type 1} → statement M
 list-spec =
     tie.close
-    (tie.spec Inv-loop μ-loop loop-holds (λ c κs. omega arith) behind-requires append-run-requires loop-less loop-again same-length returns)
+    (tie.spec Inv-loop μ-loop loop-holds scan-requires append-run-requires loop-less loop-again same-length returns)

@@ -1,62 +1,139 @@
--- `scan` lets a run go as far as it goes. The loop's invariant: a run goes from `start` up to `end`.
-use mathlib.Core.Path.{refl, sym, subst}
+-- `scan` lets a word grow as long as the later tail has the greater sample at the first difference. The loop's invariant: the samples from `start` on, `word` of
+-- them, are a Lyndon word.
+use mathlib.Core.Path.{refl}
+use mathlib.Core.Bool.{false}
 use mathlib.Core.List.{map}
-use mathlib.Core.Logic.{⊎-elim}
-use Prim.Native.Nat.{ℕ, _+_, _-_}
+use Prim.Native.Nat.{_+_, _-_}
 use native.Mathlib.Omega.{arith}
 use lib.ListN.{length}
+use borrow.Author.Needs.{needs}
+use borrow.Author.Tests.{not-true, not-false}
 use Rattle.definitions.specs.Table.{rankOf}
 use Rattle.runs.specs.Runs.{Running}
-use Rattle.runs.proofs.Samples.{samples-first, samples-equal, samples-greater, samples-broken, samples-ended}
+use Rattle.runs.proofs.Samples.{samples-first, samples-alike, samples-unlike, samples-ended, samples-empty, samples-within, samples-stopped, samples-grown}
 use Rattle.runs.proofs.scan.Statement.{statement}
 use Rattle.runs.proofs.scan.Tie as tie
 
 abbrev Inv-loop : tie.InvT-loop
-Inv-loop order pattern start back₀ end₀ back end = Running (map (rankOf order) pattern) start back end
+Inv-loop order pattern start x word₀ word = Running (map (rankOf order) pattern) start start (start + word)
 
 abbrev μ-loop : tie.MeasureT-loop
-μ-loop order pattern start back₀ end₀ back end = length pattern - end
+μ-loop order pattern start x word₀ word = length x - word
 
 loop-holds : tie.Need-loop-holds Inv-loop μ-loop
 loop-holds c =
-    let s = c .before in samples-first (s .args .order) (s .args .pattern .now) (s .args .start) (s .pre)
+    let s = c .before .before in samples-first (s .args .order) (s .args .pattern .now) (s .args .start) (s .pre .0)
 
-shared-slice-read-rank-of : tie.Need-shared-slice-read-rank-of Inv-loop μ-loop
-shared-slice-read-rank-of c = omega (arith, c .before .before .loop .inv .high)
+-- ---- the first samples agree
 
-add-back : tie.Need-add-back Inv-loop μ-loop
-add-back c = omega (arith, c .before .before .before .before .before .before .before .loop .inv .high)
+first-difference-requires : tie.Need-first-difference-requires Inv-loop μ-loop
+first-difference-requires c κs =
+    let t = c .before .before .before .before in
+    let at = t .before in
+    let a = at .before .before .before .args in
+    samples-alike (a .order) (a .pattern .now) (a .start) (at .loop .word) (at .loop .inv) (t .loop-test .taken) (c .if1 .taken)
+
+grows-requires : tie.Need-grows-requires Inv-loop μ-loop
+grows-requires c κs =
+    let at = c .before .before .before .before .before .before in
+    let a = at .before .before .before .args in
+    omega (arith, samples-within (a .order) (a .pattern .now) (a .start) (at .loop .word) (at .loop .inv) (c .first-difference .result) (c .first-difference .ensures))
+
+run-of-requires : tie.Need-run-of-requires Inv-loop μ-loop
+run-of-requires c κs =
+    let f = c .before .before in
+    let at = f .before .before .before .before .before .before in
+    let s = at .before .before .before in
+    let a = s .args in
+    omega (arith, s .pre, samples-within (a .order) (a .pattern .now) (a .start) (at .loop .word) (at .loop .inv) (f .first-difference .result) (f .first-difference .ensures))
 
 returns : tie.Need-returns Inv-loop μ-loop
 returns c =
-    let b = c .before in
-    let a = b .before .before in
-    let at = a .before .before .before in
-    let s = at .before .before .args in
-    (refl, samples-broken (s .order) (s .pattern .now) (s .start) (at .loop .back) (at .loop .end) (at .loop .inv) (omega arith) (a .rank-of .result) (b .rank-of2 .result) (a .rank-of .ensures) (b .rank-of2 .ensures) (c .if1 .taken))
+    let g = c .before .before in
+    let f = g .before in
+    let at = f .before .before .before .before .before .before in
+    let k = at .before .before in
+    let a = k .before .args in
+    let r = c .run-of .result in
+    samples-stopped (a .order) (a .pattern .now) (a .start) (at .loop .word) (at .loop .inv) (f .first-difference .result) (f .first-difference .ensures) (λ j h. omega (arith, k .shared-slice-known .given j))
+    (g .grows .result) (g .grows .ensures) (not-true (g .grows .result) (c .before .if2 .taken)) (r .start) (r .back) (r .end) (r .next) (c .run-of .ensures)
+
+add-word : tie.Need-add-word Inv-loop μ-loop
+add-word c =
+    let f = c .before .before in
+    let at = f .before .before .before .before .before .before in
+    let s = at .before .before .before in
+    let a = s .args in
+    omega (arith, s .pre, samples-within (a .order) (a .pattern .now) (a .start) (at .loop .word) (at .loop .inv) (f .first-difference .result) (f .first-difference .ensures))
+
+add-word-2 : tie.Need-add-word-2 Inv-loop μ-loop
+add-word-2 c =
+    let f = c .before .before in
+    let at = f .before .before .before .before .before .before in
+    let s = at .before .before .before in
+    let a = s .args in
+    omega (arith, s .pre, samples-within (a .order) (a .pattern .now) (a .start) (at .loop .word) (at .loop .inv) (f .first-difference .result) (f .first-difference .ensures))
 
 loop-again : tie.Need-loop-again Inv-loop μ-loop
 loop-again c =
-    let i = c .before in
-    let b = i .before in
-    let a = b .before .before in
-    let at = a .before .before .before in
-    let s = at .before .before .args in
-    let ranks = map (rankOf (s .order)) (s .pattern .now) in ⊎-elim
-    (λ w. subst (λ (i : ℕ). Running ranks (s .start) i (at .loop .end + 1)) (sym (w .1))
-    (samples-equal (s .order) (s .pattern .now) (s .start) (at .loop .back) (at .loop .end) (at .loop .inv) (omega arith) (a .rank-of .result) (b .rank-of2 .result) (a .rank-of .ensures) (b .rank-of2 .ensures) (w .0 .taken)))
-    (λ w. subst (λ (i : ℕ). Running ranks (s .start) i (at .loop .end + 1)) (sym (w .1))
-    (samples-greater (s .order) (s .pattern .now) (s .start) (at .loop .back) (at .loop .end) (at .loop .inv) (omega arith) (a .rank-of .result) (b .rank-of2 .result) (a .rank-of .ensures) (b .rank-of2 .ensures) (w .0 .left) (omega (arith, i .if1 .left))))
-    (c .if2 .came)
+    let g = c .before in
+    let f = g .before in
+    let at = f .before .before .before .before .before .before in
+    let k = at .before .before in
+    let a = k .before .args in
+    samples-grown (a .order) (a .pattern .now) (a .start) (at .loop .word) (at .loop .inv) (f .first-difference .result) (f .first-difference .ensures) (λ j h. omega (arith, k .shared-slice-known .given j))
+    (g .grows .result) (g .grows .ensures) (not-false (g .grows .result) (c .if2 .left))
+
+-- ---- they differ
 
 returns-2 : tie.Need-returns-2 Inv-loop μ-loop
 returns-2 c =
+    let g = c .before .before in
+    let i = g .before in
+    let at = i .before .before .before .before .before in
+    let k = at .before .before in
+    let a = k .before .args in
+    let r = c .run-of2 .result in
+    let e = samples-unlike (a .order) (a .pattern .now) (a .start) (at .loop .word) (at .loop .inv) (i .if1 .left) in
+    samples-stopped (a .order) (a .pattern .now) (a .start) (at .loop .word) (at .loop .inv) 0 e (λ j h. omega (arith, k .shared-slice-known .given j))
+    (g .grows2 .result) (g .grows2 .ensures) (not-true (g .grows2 .result) (c .before .if3 .taken)) (r .start) (r .back) (r .end) (r .next) (c .run-of2 .ensures)
+
+loop-again-2 : tie.Need-loop-again-2 Inv-loop μ-loop
+loop-again-2 c =
+    let g = c .before in
+    let i = g .before in
+    let at = i .before .before .before .before .before in
+    let k = at .before .before in
+    let a = k .before .args in
+    let e = samples-unlike (a .order) (a .pattern .now) (a .start) (at .loop .word) (at .loop .inv) (i .if1 .left) in
+    samples-grown (a .order) (a .pattern .now) (a .start) (at .loop .word) (at .loop .inv) 0 e (λ j h. omega (arith, k .shared-slice-known .given j))
+    (g .grows2 .result) (g .grows2 .ensures) (not-false (g .grows2 .result) (c .if3 .left))
+
+-- ---- nothing stands behind the word
+
+run-of-requires-3 : tie.Need-run-of-requires-3 Inv-loop μ-loop
+run-of-requires-3 c κs =
     let at = c .before in
-    let s = at .before .before .args in
-    (refl, samples-ended (s .order) (s .pattern .now) (s .start) (at .loop .back) (at .loop .end) (at .loop .inv) (omega arith))
+    let s = at .before .before .before in
+    let a = s .args in
+    let e = samples-ended (a .order) (a .pattern .now) (a .start) (at .loop .word) (at .loop .inv) (c .loop-test .left) in
+    omega (arith, s .pre, samples-within (a .order) (a .pattern .now) (a .start) (at .loop .word) (at .loop .inv) 0 e)
+
+returns-3 : tie.Need-returns-3 Inv-loop μ-loop
+returns-3 c =
+    let t = c .before in
+    let at = t .before in
+    let k = at .before .before in
+    let a = k .before .args in
+    let r = c .run-of3 .result in
+    let e = samples-ended (a .order) (a .pattern .now) (a .start) (at .loop .word) (at .loop .inv) (t .loop-test .left) in
+    let n = samples-empty (a .order) (a .pattern .now) (a .start) (at .loop .word) (at .loop .inv) (t .loop-test .left) in
+    samples-stopped (a .order) (a .pattern .now) (a .start) (at .loop .word) (at .loop .inv) 0 e (λ j h. omega (arith, k .shared-slice-known .given j))
+    false n refl (r .start) (r .back) (r .end) (r .next) (c .run-of3 .ensures)
 
 pub scan-spec : {M : Type 1} → statement M
 scan-spec =
     tie.close
-    (tie.spec Inv-loop μ-loop (λ c. omega arith) loop-holds shared-slice-read-rank-of (λ c κs. tt) (λ c. omega arith) (λ c κs. tt) returns add-back
-    (λ c. omega arith) (λ c. omega arith) loop-again returns-2)
+    (tie.spec Inv-loop μ-loop (λ c. search needs) (λ c. search needs) (λ c. search needs) loop-holds (λ c. search needs) (λ c. search needs) (λ c. search needs)
+    (λ c. search needs) (λ c. search needs) first-difference-requires grows-requires run-of-requires returns add-word add-word-2 (λ c. search needs) loop-again
+    (λ c κs. search needs) (λ c κs. search needs) returns-2 (λ c. search needs) (λ c. search needs) loop-again-2 run-of-requires-3 returns-3)
