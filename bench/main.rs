@@ -1,9 +1,11 @@
 //! One call of a service under callgrind: `bench SIDE SERVICE FAMILY SAMPLES [PATTERN [KIND]]`. SIDE is `library` or `rust`; SERVICE is `build`,
 //! `check`, `read`, `copied` (reading, beside a Rust that copies the text), `extract` (the whole text), `count`, `locate`, `cuts` (the live cuts of
-//! the pattern that a search tries), `compared` (how many pairs of samples are compared to list them), `lyndon_length` (at the first position), `lyndon_array`, `to_signed` (of the former table), or `doubling`: the check of a table of SAMPLES
-//! rules that double. FAMILY 100 + m is a block of m random bytes, repeated. The pattern is the PATTERN samples in the middle of the text; with the KIND `nested`
-//! so many nested samples; with @i as KIND so many from position i on; and with a number k so many that are a^k, then b up to the last one, and a. It prints the answer, the number of tests, and a
-//! checksum of each lent slice afterwards, which `bench/run` compares between the sides. The lent slices hold other values before the call.
+//! the pattern that a search tries), `lyndon_length` (at the first position), `lyndon_array`, `to_signed` (of the former table), or `doubling`: the
+//! check of a table of SAMPLES rules that double. FAMILY 100 + m is a block of m random bytes, repeated. The pattern is the PATTERN samples in the
+//! middle of the text; with the KIND `nested` so many nested samples; with @i as KIND so many from position i on; and with a number k so many that
+//! are a^k, then b up to the last one, and a. It prints the answer, the number of tests, and a checksum of each lent slice afterwards, which
+//! `bench/run` compares between the sides. The lent slices hold other values before the call. The SERVICE `compared` calls nothing: it prints how
+//! many pairs of samples the Rust side compares to list the pattern's cuts.
 
 mod baseline;
 mod compared;

@@ -81,7 +81,7 @@ fn copies(word: usize, more: usize) -> usize {
     if more < word {
         return 1;
     }
-    1 + unsafe { more.checked_div(word).unwrap_unchecked() }
+    1 + unsafe { (more as u32).checked_div(word as u32).unwrap_unchecked() } as usize
 }
 
 /// Writes a cut behind the n that stand at the front, if it is listed. Answers how many stand there then.

@@ -1,10 +1,10 @@
 // The runs of a pattern, one after the other, by which its listed cuts are found.
 //
 // Duval's factorization of the pattern from sample 1 on. A run is a Lyndon word, whole copies of it, and a front of it, as far as it goes: the tails from the
-// run's start and from behind its word agree up to their first difference. Where they agree to the end, the run reaches it. Where the later tail's sample is the greater one, all
-// of that is one longer word; where it is the smaller one, the run is broken. Then its whole copies are left, and the next run begins. Where a run reaches the pattern's end,
-// the starts of its whole copies are live, and no other cut from its start up to its front is; of these the first is listed, and the last if no front follows it. Fewer than
-// two samples are compared for each sample of the pattern. No scratch memory.
+// run's start and from behind its word agree up to their first difference. Where they agree to the end, the run reaches it. Where the later tail's sample is
+// the greater one, all of that is one longer word; where it is the smaller one, the run is broken. Then its whole copies are left, and the next run begins.
+// Where a run reaches the pattern's end, the starts of its whole copies are live, and no other cut from its start up to its front is; of these the first is
+// listed, and the last if no front follows it. Fewer than two pairs of samples are compared for each sample of the pattern. No scratch memory.
 use definitions::Order;
 use ranks::rank_of;
 use tails::first_difference;
@@ -74,7 +74,7 @@ fn run_of(start: usize, word: usize, more: usize) -> Run
     }
 }
 
-// How many whole copies of a word stand in it and `more` samples that repeat it. Most often it is one.
+// How many whole copies of a word stand in it and `more` samples that repeat it. Most often it is one; else 32 bits are divided faster than 64.
 fn copies(word: usize, more: usize) -> usize
     requires { ⌜ (0 < word) × (more ≤ 2047) ⌝ }
     ensures { λ r. ⌜ r ≡ 1 + more / word ⌝ }
@@ -82,5 +82,5 @@ fn copies(word: usize, more: usize) -> usize
     if more < word {
         return 1;
     }
-    1 + more / word
+    1 + (more as u32 / word as u32) as usize
 }
