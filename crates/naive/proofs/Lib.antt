@@ -1,4 +1,2 @@
 pub mod Scanning
 pub mod Noting
-pub mod Trying
-pub mod Cutting

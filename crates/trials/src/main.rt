@@ -6,7 +6,7 @@ use definitions::Answer;
 use libc::STDIN_FILENO;
 use libc::STDOUT_FILENO;
 use naive::scan;
-use naive::words::longest_at;
+use naive_words::longest_at;
 use slices::equal;
 use slices::wide;
 ghost use Prim.Native.Nat.{_≤_};
@@ -105,7 +105,7 @@ fn print_tests<'a>(table: &'a [u32], motif: &'a [u8], tests: usize) {
         return;
     }
     let mut cuts = [7u32; 64];
-    let n = naive::cuts::list(motif, &mut cuts);
+    let n = naive_cuts::list(motif, &mut cuts);
     if n <= 64 {
         if naive_tests::count(table, &cuts[0..n], motif.len()) == tests {
             print(b" by both");
@@ -167,7 +167,7 @@ fn cut(motif: &[u8]) {
         Answer::Refused(number, _) => print_number(b" refused ", wide(number)),
         Answer::Done(n) => {
             print_list(b" cuts", &cuts, n);
-            if naive::cuts::list(motif, &mut tried) == n && equal(&cuts, &tried) {
+            if naive_cuts::list(motif, &mut tried) == n && equal(&cuts, &tried) {
                 print(b" by both");
             }
         }
