@@ -7,7 +7,7 @@ use Rattle.definitions.specs.declared.Order.{Order}
 use Rattle.definitions.specs.Table.{tableOf, ruleCount}
 use Rattle.definitions.specs.Occurrences.{occurrences, tests}
 use Rattle.state.specs.State.{Loaded, Ready}
-use Rattle.search.specs.Searching.{Starts, Searched}
+use Rattle.rule_finds.specs.Searching.{Starts, Searched}
 use Rattle.listing.specs.Listing.{Finds}
 
 -- the number of rules, once the order is known

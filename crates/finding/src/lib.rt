@@ -15,7 +15,7 @@ ghost use Rattle.definitions.specs.Occurrences.{occurrences, patternCuts, tests
 ghost use Rattle.definitions.specs.Services.{Serves, Answers, Searches, sampleOrder, writes};
 ghost use Rattle.state.specs.State.{Ready, rulesLoaded};
 ghost use Rattle.listing.specs.Listing.{Finds, rulesCounted};
-ghost use Rattle.search.specs.Searching.{Searched};
+ghost use Rattle.rule_finds.specs.Searching.{Searched};
 
 // Counts in the text that is loaded, whose table has so many rules: occurrences and tests.
 pub fn count_loaded(pattern: &[u8], rules: usize, work: &mut [u32]) -> Totals

@@ -18,10 +18,10 @@ use Rattle.decoding.specs.declared.Rule.the-variants.{Symbol, Pair}
 use Rattle.decoding.specs.Decoding.{ruleIn}
 use Rattle.state.specs.State.{Loaded}
 use Rattle.joins.specs.Joining.{cutPlace}
-use Rattle.search.specs.Found.{occursIn}
+use Rattle.rule_finds.specs.Found.{occursIn}
 use Rattle.listing.specs.Listing.{Finds, inDrive, tableFor, foundFor, placedFrom, Listable, Listed}
-use Rattle.search.proofs.Standing.{PlacedHalves, placed-symbol, pair-stands, rule-stands}
-use Rattle.search.proofs.Counting.{pair-occurs, pair-counts}
+use Rattle.rule_finds.proofs.Standing.{PlacedHalves, placed-symbol, pair-stands, rule-stands}
+use Rattle.rule_finds.proofs.Counting.{pair-occurs, pair-counts}
 use Rattle.search.proofs.Starting.{root-occurs}
 use Rattle.listing.proofs.Drives.{drive-length, drive-append, drive-behind, drive-cut, drive-marked, drive-cut-size}
 use Rattle.listing.proofs.Entries.{from-start, from-none, from-both}

@@ -8,8 +8,8 @@ use Rattle.definitions.specs.declared.Order.{Order}
 use Rattle.definitions.specs.Words.{placed}
 use Rattle.definitions.specs.Table.{rankOf, tableOf, ruleCount}
 use Rattle.layout.specs.Layout.{lengthIn, countIn}
-use Rattle.search.specs.Found.{occursIn}
-use Rattle.search.specs.Searching.{Searched}
+use Rattle.rule_finds.specs.Found.{occursIn}
+use Rattle.rule_finds.specs.Searching.{Searched}
 
 -- all rules are counted, for some pattern
 pub record Finds (w : List ℕ) : Type 0 where

@@ -1,4 +1,1 @@
-pub mod Standing
-pub mod Short
-pub mod Counting
 pub mod Starting

@@ -18,10 +18,10 @@ use Rattle.lyndon.specs.Stored.{table-spelled}
 use Rattle.lyndon.specs.Occurrences.{occurrences-marked}
 use Rattle.layout.specs.Layout.{TABLE, FOUND, PATTERN, CUTS, NO_CUT, WORK, countIn}
 use Rattle.state.specs.State.{Loaded}
-use Rattle.search.specs.Found.{occursIn}
-use Rattle.search.specs.Searching.{Pattern, Counting, Searched}
-use Rattle.search.proofs.Standing.{Outside, lent-outside, outside-set, placed-outside}
-use Rattle.search.proofs.Counting.{tried-cuts}
+use Rattle.rule_finds.specs.Found.{occursIn}
+use Rattle.rule_finds.specs.Searching.{Pattern, Counting, Searched}
+use Rattle.rule_finds.proofs.Standing.{Outside, lent-outside, outside-set, placed-outside}
+use Rattle.rule_finds.proofs.Counting.{tried-cuts}
 
 pub pattern-here : (p : List ℕ) → 0 < length p → length p ≤ 2047 → ((i : ℕ) → i < length p → getD p i 0 < 256) → Pattern p
 pattern-here p h k b = record { filled = h; short = k; bytes = slice-bytes p b }

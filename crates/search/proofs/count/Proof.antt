@@ -7,7 +7,7 @@ use borrow.Author.Needs.{needs}
 use borrow.Author.Tests.{ltb-true}
 use Rattle.lyndon.specs.Stored.{rule-range}
 use Rattle.layout.specs.Layout.{FOUND, lengthIn}
-use Rattle.search.proofs.Short.{short-text, short-search, short-all}
+use Rattle.rule_finds.proofs.Short.{short-text, short-search, short-all}
 use Rattle.search.proofs.Starting.{pattern-here, counted-text, counted-all}
 use Rattle.search.proofs.count.Statement.{statement}
 use Rattle.search.proofs.count.Tie as tie

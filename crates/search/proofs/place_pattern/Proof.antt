@@ -7,7 +7,7 @@ use lib.ListN.{length, take, drop, length-take, length-drop}
 use borrow.Author.Needs.{needs}
 use Rattle.cuts.proofs.Lists.{most-cuts, eleven}
 use Rattle.layout.specs.Layout.{PATTERN, CUTS}
-use Rattle.search.specs.Searching.{Counting}
+use Rattle.rule_finds.specs.Searching.{Counting}
 use Rattle.search.proofs.Starting.{pattern-here, counting-start, cuts-length}
 use Rattle.search.proofs.place_pattern.Statement.{statement}
 use Rattle.search.proofs.place_pattern.Tie as tie

@@ -13,11 +13,11 @@ use Rattle.layout.specs.Layout.{PACK, lengthIn, placeIn}
 use Rattle.decoding.specs.declared.Rule.{Rule}
 use Rattle.decoding.specs.declared.Rule.the-variants.{Pair}
 use Rattle.decoding.specs.Decoding.{ruleIn}
-use Rattle.search.specs.Searching.{FoundFor}
-use Rattle.search.proofs.Counting.{PairKnown, turn-known, pair-known, pair-found, pair-tests}
-use Rattle.search.proofs.Short.{long-pair, short-found, short-tests}
-use Rattle.search.proofs.found_in.Statement.{statement}
-use Rattle.search.proofs.found_in.Tie as tie
+use Rattle.rule_finds.specs.Searching.{FoundFor}
+use Rattle.rule_finds.proofs.Counting.{PairKnown, turn-known, pair-known, pair-found, pair-tests}
+use Rattle.rule_finds.proofs.Short.{long-pair, short-found, short-tests}
+use Rattle.rule_finds.proofs.found_in.Statement.{statement}
+use Rattle.rule_finds.proofs.found_in.Tie as tie
 
 found-of-one-requires : tie.Need-found-of-one-requires
 found-of-one-requires c κs =

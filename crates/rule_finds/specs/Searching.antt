@@ -14,7 +14,7 @@ use Rattle.decoding.specs.declared.Rule.the-variants.{Symbol}
 use Rattle.decoding.specs.Decoding.{ruleIn}
 use Rattle.state.specs.State.{Loaded}
 use Rattle.joins.specs.Joining.{Tried}
-use Rattle.search.specs.Found.{FoundIn}
+use Rattle.rule_finds.specs.Found.{FoundIn}
 
 -- 1 to 2,047 samples, each a byte
 pub record Pattern (p : List ℕ) : Type 0 where

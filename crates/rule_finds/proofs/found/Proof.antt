@@ -1,8 +1,8 @@
 -- `found` adds the words of both halves. The cuts in them do not reach PACK together, so dividing drops them, and the numbers are added.
 use native.Mathlib.Omega.{arith}
 use borrow.Author.Needs.{needs}
-use Rattle.search.proofs.found.Statement.{statement}
-use Rattle.search.proofs.found.Tie as tie
+use Rattle.rule_finds.proofs.found.Statement.{statement}
+use Rattle.rule_finds.proofs.found.Tie as tie
 
 pub found-spec : {M : Type 1} → statement M
 found-spec =

@@ -6,9 +6,9 @@ use Rattle.layout.specs.Layout.{placeIn, lengthIn}
 use Rattle.decoding.specs.declared.Rule.the-variants.{Pair}
 use Rattle.decoding.specs.Decoding.{ruleIn}
 use Rattle.joins.proofs.Joining.{join-one}
-use Rattle.search.proofs.Counting.{PairKnown, turn-known, pair-known, pair-found}
-use Rattle.search.proofs.found_of_one.Statement.{statement}
-use Rattle.search.proofs.found_of_one.Tie as tie
+use Rattle.rule_finds.proofs.Counting.{PairKnown, turn-known, pair-known, pair-found}
+use Rattle.rule_finds.proofs.found_of_one.Statement.{statement}
+use Rattle.rule_finds.proofs.found_of_one.Tie as tie
 
 found-in-symbol-requires : tie.Need-found-in-symbol-requires
 found-in-symbol-requires c κs =

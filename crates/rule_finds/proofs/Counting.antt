@@ -25,9 +25,9 @@ use Rattle.decoding.specs.Decoding.{ruleIn}
 use Rattle.lyndon.specs.Ruled.{SymbolOf, PairOf}
 use Rattle.joins.specs.Joining.{longestTail, cutPlace, JoinCut}
 use Rattle.joins.proofs.Joining.{cut-place-size}
-use Rattle.search.specs.Found.{occursIn, acrossJoin, FoundIn}
-use Rattle.search.specs.Searching.{Counting, Counts, CountedBefore, SymbolTurn, FoundFor, testsFor}
-use Rattle.search.proofs.Standing.{PlacedHalves, placed-symbol, rule-stands, pair-stands, outside-set, placed-outside}
+use Rattle.rule_finds.specs.Found.{occursIn, acrossJoin, FoundIn}
+use Rattle.rule_finds.specs.Searching.{Counting, Counts, CountedBefore, SymbolTurn, FoundFor, testsFor}
+use Rattle.rule_finds.proofs.Standing.{PlacedHalves, placed-symbol, rule-stands, pair-stands, outside-set, placed-outside}
 
 -- ---- a symbol
 

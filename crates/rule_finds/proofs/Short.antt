@@ -25,9 +25,9 @@ use Rattle.decoding.specs.Decoding.{ruleIn, leftIn, rightIn}
 use Rattle.decoding.proofs.Rules.{pair-unless}
 use Rattle.state.specs.State.{Loaded}
 use Rattle.joins.proofs.Joining.{cut-place-none}
-use Rattle.search.specs.Found.{occursIn, acrossJoin, FoundIn}
-use Rattle.search.specs.Searching.{Pattern, Searched}
-use Rattle.search.proofs.Standing.{lent-outside, placed-outside, placed-symbol, pair-stands}
+use Rattle.rule_finds.specs.Found.{occursIn, acrossJoin, FoundIn}
+use Rattle.rule_finds.specs.Searching.{Pattern, Searched}
+use Rattle.rule_finds.proofs.Standing.{lent-outside, placed-outside, placed-symbol, pair-stands}
 
 no-members : (l : List ℕ) → length l ≡ 0 → l ≡ []
 no-members [] e = refl

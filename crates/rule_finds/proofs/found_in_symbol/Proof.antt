@@ -7,9 +7,9 @@ use native.Mathlib.Omega.{arith}
 use lib.ListN.{getD}
 use borrow.Author.Tests.{eq-eqb, ne-eqb}
 use Rattle.layout.specs.Layout.{PATTERN, PACK, placeIn}
-use Rattle.search.proofs.Counting.{turn-known, symbol-found, symbol-place}
-use Rattle.search.proofs.found_in_symbol.Statement.{statement}
-use Rattle.search.proofs.found_in_symbol.Tie as tie
+use Rattle.rule_finds.proofs.Counting.{turn-known, symbol-found, symbol-place}
+use Rattle.rule_finds.proofs.found_in_symbol.Statement.{statement}
+use Rattle.rule_finds.proofs.found_in_symbol.Tie as tie
 
 shared-slice-read-a : tie.Need-shared-slice-read-a
 shared-slice-read-a c =
