@@ -61,7 +61,7 @@ fn alike<'a>(x: &'a [u32], y: &'a [u32], blocks: usize) -> usize
     while i < blocks {
         let a = 8 * i;
         let b = a + 8;
-        if !slices::equal_many(&x[a..b], &y[a..b]) {
+        if !equality::equal_many(&x[a..b], &y[a..b]) {
             return i;
         }
         i += 1;

@@ -1,10 +1,10 @@
 // Testing a join: whether a pattern straddles two strings that stand one behind the other, a standard factorization, and at which of its listed cuts.
 pub mod areas;
 
+use equality::equal;
 use layout::CUTS;
 use layout::PACK;
 use layout::PATTERN;
-use slices::equal;
 use slices::wide;
 ghost use mathlib.Core.Path.{_≡_};
 ghost use mathlib.Core.Bool.{cond};

@@ -64,7 +64,7 @@ fn keep(table: &[u32], work: &mut [u32]) -> Answer
     Answer::Done(rules)
 }
 
-// Whether of the n ranks at the front the first alone is the mark. The loop goes to the end, as that of `slices::equal` does.
+// Whether of the n ranks at the front the first alone is the mark. The loop goes to the end, as that of `equality::equal_many` does.
 fn is_marked(work: &[u32], n: usize) -> bool
     requires { ⌜ (0 < n) × (n ≤ length (now work)) ⌝ }
     ensures { λ b. ⌜ (b ≡ true → Front (now (work .entry)) n) × (b ≡ false → Front (now (work .entry)) n → ⊥) ⌝ }

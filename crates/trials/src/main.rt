@@ -3,11 +3,11 @@
 // side counts; so is the drive's Lyndon array, entry by entry, with what single calls answer and with what the naive side says, and the motif's
 // cuts with those that the naive side lists. The file `stdout` has what is printed.
 use definitions::Answer;
+use equality::equal;
 use libc::STDIN_FILENO;
 use libc::STDOUT_FILENO;
 use naive::scan;
 use naive_words::longest_at;
-use slices::equal;
 use slices::wide;
 ghost use Prim.Native.Nat.{_≤_};
 ghost use lib.ListN.{length};

@@ -11,8 +11,8 @@ use borrow.Author.Tests.{not-true, not-false}
 use Rattle.definitions.specs.Words.{same}
 use Rattle.lists.specs.Sameness.{unequal, part-unequal, last-decides}
 use Rattle.lists.specs.Strings.{same-eq}
-use Rattle.slices.proofs.equal.Statement.{statement}
-use Rattle.slices.proofs.equal.Tie as tie
+use Rattle.equality.proofs.equal.Statement.{statement}
+use Rattle.equality.proofs.equal.Tie as tie
 
 returns : tie.Need-returns
 returns c = let a = c .before .before .before .args in sym (unequal (a .x .now) (a .y .now) (c .if1 .taken))

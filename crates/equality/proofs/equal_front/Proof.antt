@@ -7,8 +7,8 @@ use lib.ListN.{take, drop, getD}
 use lib.Seq.{getD-take, length-take-le}
 use Rattle.definitions.specs.Words.{same}
 use Rattle.lists.specs.Sameness.{agree, differ, ended}
-use Rattle.slices.proofs.equal_front.Statement.{statement}
-use Rattle.slices.proofs.equal_front.Tie as tie
+use Rattle.equality.proofs.equal_front.Statement.{statement}
+use Rattle.equality.proofs.equal_front.Tie as tie
 
 abbrev Inv-loop : tie.InvT-loop
 Inv-loop x y n i₀ i = (i ≤ n) × (same (take n x) (take n y) ≡ same (drop i (take n x)) (drop i (take n y)))

@@ -6,8 +6,8 @@ use native.Mathlib.Omega.{arith}
 use lib.ListN.{length, drop}
 use Rattle.definitions.specs.Words.{same}
 use Rattle.lists.specs.Sameness.{passed, all-passed}
-use Rattle.slices.proofs.equal_many.Statement.{statement}
-use Rattle.slices.proofs.equal_many.Tie as tie
+use Rattle.equality.proofs.equal_many.Statement.{statement}
+use Rattle.equality.proofs.equal_many.Tie as tie
 
 abbrev Inv-loop : tie.InvT-loop
 Inv-loop x y alike₀ i₀ alike i = (i ≤ length x) × (length x ≡ length y) × (same x y ≡ alike && same (drop i x) (drop i y))

@@ -6,8 +6,8 @@ use lib.ListN.{length, take, drop, length-take, length-drop}
 use borrow.Author.Tests.{not-true, not-false}
 use Rattle.lists.specs.Sameness.{part-unequal, parts-equal, last-decides}
 use Rattle.lists.specs.Strings.{same-eq}
-use Rattle.slices.proofs.equal_by_sixteen.Statement.{statement}
-use Rattle.slices.proofs.equal_by_sixteen.Tie as tie
+use Rattle.equality.proofs.equal_by_sixteen.Statement.{statement}
+use Rattle.equality.proofs.equal_by_sixteen.Tie as tie
 
 abbrev Inv-loop : tie.InvT-loop
 Inv-loop x y n blocks i₀ i = (n ≡ length x) × (length x ≡ length y) × (16 ≤ length x) × (blocks ≡ n / 16) × (i ≤ blocks) × (take (16 * i) x ≡ take (16 * i) y)
