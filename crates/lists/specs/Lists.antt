@@ -18,6 +18,10 @@ module _ {ℓ} {A : Type ℓ} where
   empty [] h = refl
   empty (a ∷ r) h = absurd (omega arith)
 
+  -- what a slice holds from a place on, as code takes it
+  pub tail-taken : (l : List A) (i : ℕ) → take (length l - i) (drop i l) ≡ drop i l
+  tail-taken l i = take-all (length l - i) (drop i l) (omega (arith, length-drop i l))
+
   -- how p ++ s and u ++ v, one list, lie over each other: s within v, or s from within u on
   pub data Overlap (p s u v : List A) : Type ℓ where
     within : (q : List A) → p ≡ u ++ q → v ≡ q ++ s → Overlap p s u v
@@ -91,7 +95,7 @@ module _ {ℓ} {A : Type ℓ} where
       let size : length w ≡ length old = ap length f ∙ placed-length u old (omega arith) in
       let rest : length (drop n w) ≤ length w - n = omega (arith, length-drop n w) in
       ap₂ {C = List A} (λ a b. a ++ b) before
-      (ap₂ {C = List A} (λ a b. a ++ b) (g ∙ ap (placed v) (take-all (length w - n) (drop n w) rest ∙ behind)) (drop-of-length-le (drop n w) rest)
+      (ap₂ {C = List A} (λ a b. a ++ b) (g ∙ ap (placed v) (tail-taken w n ∙ behind)) (drop-of-length-le (drop n w) rest)
       ∙ append-nil (placed v (drop (length u) old)))
       ∙ sym (append-assoc u v (drop (length v) (drop (length u) old)))
       ∙ ap (λ (l : List A). (u ++ v) ++ l) (drop-drop (length v) (length u) old ∙ ap (λ (k : ℕ). drop k old) (sym (length-append u v)))

@@ -7,11 +7,12 @@ use Prim.Native.Nat.{ℕ, zero, suc, _+_, _-_, _≤_, _<_}
 use native.Mathlib.Omega.{arith}
 use native.Mathlib.Numerals.{add-one}
 use lib.ListN.{length, take, drop, getD, drop-of-length-le, length-drop, length-map}
-use lib.Seq.{drop-cons, take-all}
+use lib.Seq.{drop-cons}
 use lib.Dec.{ltb, eqb}
 use borrow.Author.Tests.{lt-ltb, le-ltb, ltb-true, ltb-false, eq-eqb, ne-eqb}
 use Rattle.definitions.specs.Words.{every, greatest, lexlt, lyndon, lyndonLength}
 use Rattle.lists.specs.Bools.{contra, not-so, and-right, and-intro, or-right, cond-true, cond-false}
+use Rattle.lists.specs.Lists.{tail-taken}
 use Rattle.lists.specs.Members.{take-map, drop-map}
 use Rattle.lists.specs.Numbers.{every-at, every-all, split-le}
 
@@ -93,7 +94,7 @@ smallerThanSuffix w = λ k. lexlt w (drop k w)
 module _ (f : ℕ → ℕ) (l : List ℕ) where
   -- a suffix, and a stretch, as code takes it
   pub suffix : (k : ℕ) → drop k (map f l) ≡ map f (take (length l - k) (drop k l))
-  suffix k = drop-map f k l ∙ ap (map f) (sym (take-all (length l - k) (drop k l) (omega (arith, length-drop k l))))
+  suffix k = drop-map f k l ∙ ap (map f) (sym (tail-taken l k))
 
   pub stretch : (i k : ℕ) → take k (drop i (map f l)) ≡ map f (take k (drop i l))
   stretch i k = ap (take k) (drop-map f i l) ∙ take-map f k (drop i l)

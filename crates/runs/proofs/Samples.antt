@@ -6,7 +6,7 @@ use mathlib.Core.List.{List, _++_, map}
 use Prim.Native.Nat.{ℕ, _+_, _-_, _*_, _/_, _≤_, _<_}
 use native.Mathlib.Omega.{arith}
 use lib.ListN.{length, take, drop, getD, length-map, length-drop}
-use lib.Seq.{take-all, drop-drop, getD-drop}
+use lib.Seq.{drop-drop, getD-drop}
 use lib.Dec.{ltb}
 use borrow.Author.Tests.{ltb-true, ltb-false, lt-ltb, le-ltb}
 use Rattle.definitions.specs.declared.Order.{Order}
@@ -15,6 +15,7 @@ use Rattle.definitions.specs.Table.{rankOf, byteOf}
 use Rattle.definitions.specs.Occurrences.{isListed}
 use Rattle.lists.specs.Bools.{and-left, and-right}
 use Rattle.lists.specs.Numbers.{split-lt}
+use Rattle.lists.specs.Lists.{tail-taken}
 use Rattle.lists.specs.Members.{map-at, take-map, drop-map}
 use Rattle.lists.specs.FirstDifference.{difference-right, difference-unlike, difference-fronts, difference-most, difference-further}
 use Rattle.lyndon.specs.Ranks.{byte-of-rank}
@@ -26,12 +27,9 @@ use Rattle.runs.proofs.Scanning.{scan-first, scan-agreed, scan-greater,
 pub samples-first : (o : Order) (p : List ℕ) (start : ℕ) → start < length p → Running (map (rankOf o) p) start start (start + 1)
 samples-first o p start h = scan-first (map (rankOf o) p) start (omega (arith, length-map p (rankOf o)))
 
--- what a slice holds from a place on, as code takes it
+-- a tail, as code takes it
 abbrev tail : List ℕ → ℕ → List ℕ
 tail l i = take (length l - i) (drop i l)
-
-tail-drop : (l : List ℕ) (i : ℕ) → tail l i ≡ drop i l
-tail-drop l i = take-all (length l - i) (drop i l) (simp length-drop (omega arith))
 
 module _ (o : Order) (p : List ℕ) (start word : ℕ) (r : Running (map (rankOf o) p) start start (start + word)) where
   abbrev ranks : List ℕ
@@ -44,10 +42,10 @@ module _ (o : Order) (p : List ℕ) (start word : ℕ) (r : Running (map (rankOf
   y = tail x word
 
   earlier : x ≡ drop start p
-  earlier = tail-drop p start
+  earlier = tail-taken p start
 
   later : y ≡ drop (start + word) p
-  later = tail-drop x word ∙ ap (drop word) earlier ∙ drop-drop word start p
+  later = tail-taken x word ∙ ap (drop word) earlier ∙ drop-drop word start p
 
   size : length ranks ≡ length p
   size = length-map p (rankOf o)

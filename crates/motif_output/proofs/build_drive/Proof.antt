@@ -2,12 +2,12 @@
 use mathlib.Core.Path.{_∙_}
 use Prim.Native.Nat.{_-_}
 use native.Mathlib.Omega.{arith}
-use lib.ListN.{length, take, drop, length-drop}
-use lib.Seq.{take-all}
+use lib.ListN.{length, take, drop}
 use borrow.Author.Needs.{needs}
 use borrow.Author.Tests.{ltb-false}
 use Rattle.definitions.specs.Services.{sampleOrder}
 use Rattle.definitions.specs.Programs.{inputTooLong}
+use Rattle.lists.specs.Lists.{tail-taken}
 use Rattle.lists.specs.Decisions.{done-met}
 use Rattle.motif_input.proofs.Splitting.{drive-bytes}
 use Rattle.motif_output.proofs.Stepping.{drive-long, drive-built}
@@ -30,7 +30,7 @@ returns-2 c =
     let input = s .args .input .now in
     let from = d .drive-start .result in
     let short = ltb-false 4095 (length input) (done-met (inputTooLong input) (length input) (f .input-fits .ensures) (d .before .enum-told .given .1) .0) in
-    let text = take-all (length input - from) (drop from input) (omega (arith, length-drop from input)) ∙ d .drive-start .ensures .1 in
+    let text = tail-taken input from ∙ d .drive-start .ensures .1 in
     let bytes = drive-bytes input (λ i h. omega (arith, k .shared-slice-known .given i)) in
     drive-built sampleOrder input (s .args .table .now) _ (omega arith) (s .pre) short bytes (take (length input - from) (drop from input)) (b .build .last .1 .1 .0) (b .build .last .1 .1 .1 .0) (b .build .result) text (b .build .ensures)
 
