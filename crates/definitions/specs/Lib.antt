@@ -2,6 +2,7 @@ pub mod Words
 pub mod Grammar
 pub mod Table
 pub mod Occurrences
+pub mod Steps
 pub mod Services
 pub mod Replies
 pub mod Programs

@@ -1,13 +1,14 @@
 -- The samples of document 01 that are marked P, its live cuts, its two examples of a cut at a join, its table of `abab` for chair 40, tables that it says are
 -- foreign, some of its edges as outcomes of services, and what its program prints; the arrays of S-1; drives whose tables, cuts and lengths the order of S-2 changes; patterns
 -- with live cuts that S-3 does not list; and the tests of S-4, in `abab` those of a rule that stands twice in the tree and of one whose left half is the mark;
--- first differences of tails (S-5): by computation, under one claim.
+-- first differences of tails (S-5); drives rearranged to steps and searched by them (S-6): by computation, under one claim.
 use Prim.Native.Nat.{ℕ, _+_, _-_}
 use mathlib.Core.Path.{_≡_, refl}
 use mathlib.Core.Bool.{Bool, true, false, cond, _&&_}
 use mathlib.Core.List.{List, [], _∷_, _++_, map}
 use lib.ListN.{length, drop, getD, replicate}
 use lib.Dec.{eqb}
+use Rattle.definitions.specs.declared.Content.the-variants.{Samples, Steps}
 use Rattle.definitions.specs.declared.Answer.{Answer}
 use Rattle.definitions.specs.declared.ReadAnswer.{ReadAnswer}
 use Rattle.definitions.specs.declared.ReadAnswer.the-variants as read
@@ -16,8 +17,9 @@ use Rattle.definitions.specs.Words.{every, below, least, placed, same, b
 use Rattle.definitions.specs.Grammar.{leftOf, rightOf, word, split, lyndonTree, indexOf, meet, visit, order, ruleOf, rulesOf}
 use Rattle.definitions.specs.Table.{rankOf, byteOf, numberOfRank, rankOfNumber, marked, wordOf, kindOf, numberOf, ruleWords, words, tableOf, badFirst, badSecond, badWord, stringOf, strings, ruleString, isPair, leftHalf, rightHalf, spelled, textOf, chairOf, isDrive, isChair, isTable}
 use Rattle.definitions.specs.Occurrences.{occurrences, notGreaterAtDifference, isLive, liveCuts, wordAgain, isListed, listedCuts, patternCuts, straddles, straddling, cutIn, cutAt, fitsJoin, isTested, Test, testsOf, testsBelow, tests}
-use Rattle.definitions.specs.Services.{Outcome, done, refused, readOutcome, searchOf, Service, firstMet, outcome, outcomeOf, cleared, slicesAfter, sampleOrder, formerOrder, tableChecks, patternChecks, buildService, checkService, readService, extractService, countService, locateService, cutsService, lyndonLengthService, lyndonArrayService, convertOrderService}
-use Rattle.definitions.specs.Replies.{replyOf, searchReplyOf}
+use Rattle.definitions.specs.Steps.{step, stepsOf, toSteps, samplesFrom, fromSteps, stepFinds, searched, finds}
+use Rattle.definitions.specs.Services.{Outcome, done, refused, readOutcome, searchOf, Service, firstMet, outcome, outcomeOf, cleared, slicesAfter, sampleOrder, formerOrder, tableChecks, patternChecks, searchChecks, buildService, checkService, readService, extractService, countService, locateService, cutsService, lyndonLengthService, lyndonArrayService, convertOrderService, toStepsService, fromStepsService}
+use Rattle.definitions.specs.Replies.{replyOf, searchReplyOf, contentOf}
 use Rattle.definitions.specs.Programs.{digits, digitsUpTo, digitCount, decimal, line, named, decimalLines, refusedLine, printed, motifOf, driveOf, foundLines, motifOutput}
 
 abbrev pub a : ℕ
@@ -59,6 +61,13 @@ abbrev pub ofRisingBefore : List ℕ
 ofRisingBefore =
     0x00000000 ∷ 0xC0000028 ∷ 0x00000100 ∷ 0xC0000000 ∷ 0x40000000 ∷ 0x80000001 ∷ 0x00000002 ∷ 0xC0000000 ∷ 0x40000002 ∷ 0x80000003 ∷ []
 
+-- a drive, and the table of its steps
+abbrev pub moved : List ℕ
+moved = 5 ∷ 7 ∷ 9 ∷ 3 ∷ 5 ∷ []
+
+abbrev pub ofSteps : List ℕ
+ofSteps = tableOf sampleOrder (5 ∷ 2 ∷ 2 ∷ 250 ∷ 2 ∷ []) 40
+
 -- work slices: enough words
 abbrev pub room : List ℕ
 room = replicate 16384 7
@@ -74,7 +83,7 @@ pub data Sample : Type 0 where
   -- the drive has so many rules, its table is accepted and gives the drive and the chair number back
   rules : List ℕ → ℕ → Sample
   -- in the drive the pattern has just these occurrences
-  finds : List ℕ → List ℕ → List ℕ → Sample
+  occurs : List ℕ → List ℕ → List ℕ → Sample
   -- the pattern has just these live cuts, or just these listed ones
   live : List ℕ → List ℕ → Sample
   cuts : List ℕ → List ℕ → Sample
@@ -84,6 +93,12 @@ pub data Sample : Type 0 where
   tries : List ℕ → List ℕ → List ℕ → Sample
   -- the tails of the pattern from these two places on differ first at this index
   differ : List ℕ → ℕ → ℕ → ℕ → Sample
+  -- the drive rearranged is this, and this restored is the drive
+  rearranged : List ℕ → List ℕ → Sample
+  -- in the drive just these positions are found by the steps of the pattern, also once it is rearranged
+  follow : List ℕ → List ℕ → List ℕ → Sample
+  -- whether the form says that a table holds steps
+  says : ℕ → Bool → Sample
   -- the Lyndon array of the drive
   lengths : List ℕ → List ℕ → Sample
   -- the ranks of the bytes
@@ -136,7 +151,7 @@ holds (rules text n) =
     eqb (length (rulesOf (marked sampleOrder text))) n
     && (eqb (least (badWord t) (length t)) (length t)
     && (isTable sampleOrder t && (same (textOf sampleOrder t) text && eqb (chairOf t) 40)))
-holds (finds text p places) = same (occurrences p text) places
+holds (occurs text p places) = same (occurrences p text) places
 holds (live p places) = same (liveCuts (map (rankOf sampleOrder) p)) places
 holds (cuts p places) = same (patternCuts sampleOrder p) places
 holds (joins text r p places) =
@@ -147,6 +162,9 @@ holds (joins text r p places) =
     isPair t r && (same (straddling q u v) places && same (cutAt q (patternCuts sampleOrder p) u v) places)
 holds (tries text p l) = same (flat (tests sampleOrder (tableOf sampleOrder text 40) p)) l
 holds (differ p i j d) = eqb (firstDifference (drop i p) (drop j p)) d
+holds (rearranged text l) = same (toSteps text) l && same (fromSteps l) text
+holds (follow text p places) = same (stepFinds p text) places && same (finds Steps p (toSteps text)) places
+holds (says form b) = eqb (length (searched (contentOf form) (a ∷ []))) (cond b 0 1)
 holds (lengths text l) = same (lyndonArray (map (rankOf sampleOrder) text)) l
 holds (ranks bytes l) = same (map (rankOf sampleOrder) bytes) l
 holds (table text chair t) = same (tableOf sampleOrder text chair) t
@@ -170,22 +188,22 @@ all (s ∷ samples) = holds s && all samples
 unfoldable pub samples : List Sample
 samples =
     rules [] 1
-    ∷ finds [] (a ∷ []) []
+    ∷ occurs [] (a ∷ []) []
     ∷ rules (a ∷ []) 3
-    ∷ finds (a ∷ []) (a ∷ []) (0 ∷ [])
-    ∷ finds (a ∷ []) (a ∷ a ∷ []) []
+    ∷ occurs (a ∷ []) (a ∷ []) (0 ∷ [])
+    ∷ occurs (a ∷ []) (a ∷ a ∷ []) []
     ∷ rules (a ∷ a ∷ a ∷ a ∷ []) 6
-    ∷ finds (a ∷ a ∷ a ∷ a ∷ []) (a ∷ a ∷ []) (0 ∷ 1 ∷ 2 ∷ [])
+    ∷ occurs (a ∷ a ∷ a ∷ a ∷ []) (a ∷ a ∷ []) (0 ∷ 1 ∷ 2 ∷ [])
     ∷ rules abab 6
-    ∷ finds abab (a ∷ b ∷ []) (0 ∷ 2 ∷ [])
-    ∷ finds abab (b ∷ a ∷ []) (1 ∷ [])
+    ∷ occurs abab (a ∷ b ∷ []) (0 ∷ 2 ∷ [])
+    ∷ occurs abab (b ∷ a ∷ []) (1 ∷ [])
     ∷ rules (b ∷ a ∷ b ∷ a ∷ []) 7
-    ∷ finds (b ∷ a ∷ b ∷ a ∷ []) (b ∷ a ∷ []) (0 ∷ 2 ∷ [])
-    ∷ finds (b ∷ a ∷ b ∷ a ∷ []) (a ∷ []) (1 ∷ 3 ∷ [])
+    ∷ occurs (b ∷ a ∷ b ∷ a ∷ []) (b ∷ a ∷ []) (0 ∷ 2 ∷ [])
+    ∷ occurs (b ∷ a ∷ b ∷ a ∷ []) (a ∷ []) (1 ∷ 3 ∷ [])
     ∷ rules (a ∷ b ∷ b ∷ b ∷ []) 7
-    ∷ finds (a ∷ b ∷ b ∷ b ∷ []) (b ∷ b ∷ b ∷ []) (1 ∷ [])
+    ∷ occurs (a ∷ b ∷ b ∷ b ∷ []) (b ∷ b ∷ b ∷ []) (1 ∷ [])
     ∷ rules (a ∷ a ∷ b ∷ b ∷ []) 7
-    ∷ finds (a ∷ a ∷ b ∷ b ∷ []) (a ∷ a ∷ b ∷ []) (0 ∷ [])
+    ∷ occurs (a ∷ a ∷ b ∷ b ∷ []) (a ∷ a ∷ b ∷ []) (0 ∷ [])
     ∷ cuts abab (2 ∷ [])
     ∷ cuts (a ∷ a ∷ b ∷ a ∷ []) (1 ∷ 3 ∷ [])
     ∷ cuts (a ∷ a ∷ a ∷ []) (1 ∷ 2 ∷ [])
@@ -224,6 +242,23 @@ samples =
     ∷ differ abab 1 4 0
     ∷ differ (a ∷ 0 ∷ []) 1 2 0
     ∷ differ abab 1 1 3
+    ∷ rearranged moved (5 ∷ 2 ∷ 2 ∷ 250 ∷ 2 ∷ [])
+    ∷ rearranged (0 ∷ 255 ∷ 0 ∷ 128 ∷ 127 ∷ []) (0 ∷ 255 ∷ 1 ∷ 128 ∷ 255 ∷ [])
+    ∷ rearranged (200 ∷ []) (200 ∷ [])
+    ∷ rearranged [] []
+    ∷ follow moved (0 ∷ 2 ∷ []) (0 ∷ 1 ∷ 3 ∷ [])
+    ∷ follow moved (254 ∷ 0 ∷ 2 ∷ []) (0 ∷ [])
+    ∷ follow (2 ∷ 3 ∷ []) (0 ∷ 2 ∷ []) []
+    ∷ follow (2 ∷ 4 ∷ 6 ∷ []) (0 ∷ 2 ∷ []) (0 ∷ 1 ∷ [])
+    ∷ follow (250 ∷ 4 ∷ 254 ∷ 8 ∷ []) (100 ∷ 110 ∷ []) (0 ∷ 2 ∷ [])
+    ∷ follow (a ∷ a ∷ a ∷ a ∷ []) (b ∷ b ∷ []) (0 ∷ 1 ∷ 2 ∷ [])
+    ∷ follow (a ∷ b ∷ []) (a ∷ b ∷ a ∷ []) []
+    ∷ follow [] (a ∷ a ∷ []) []
+    ∷ says 0 false
+    ∷ says 1 true
+    ∷ says 2 false
+    ∷ says 4294967294 false
+    ∷ says 4294967295 true
     ∷ lengths abab (2 ∷ 1 ∷ 2 ∷ 1 ∷ [])
     ∷ lengths (a ∷ a ∷ b ∷ []) (3 ∷ 2 ∷ 1 ∷ [])
     ∷ lengths (a ∷ a ∷ a ∷ a ∷ []) (1 ∷ 1 ∷ 1 ∷ 1 ∷ [])
@@ -271,15 +306,28 @@ samples =
     ∷ ends (extractService sampleOrder ofAbab 4 0 room []) 0 0 0 0
     ∷ ends (extractService sampleOrder ofAbab 4 1 room []) 8 0 0 0
     ∷ ends (extractService sampleOrder ofAbab 18446744073709551615 2 room (replicate 2 7)) 8 0 0 0
-    ∷ ends (countService sampleOrder ofAbab (b ∷ a ∷ []) room) 0 0 1 3
-    ∷ ends (countService sampleOrder ofAbab (a ∷ []) room) 0 0 2 0
-    ∷ ends (countService sampleOrder [] [] []) 2 0 0 0
-    ∷ ends (countService sampleOrder twoRules (a ∷ []) room) 7 0 0 0
-    ∷ ends (locateService sampleOrder ofAbab (b ∷ a ∷ b ∷ []) room (replicate 1 7)) 0 0 1 2
-    ∷ ends (locateService sampleOrder [] [] [] []) 2 0 0 0
-    ∷ ends (locateService sampleOrder twoRules (a ∷ []) room (replicate 2 7)) 7 0 0 0
+    ∷ ends (countService sampleOrder ofAbab Samples (b ∷ a ∷ []) room) 0 0 1 3
+    ∷ ends (countService sampleOrder ofAbab Samples (a ∷ []) room) 0 0 2 0
+    ∷ ends (countService sampleOrder [] Samples [] []) 2 0 0 0
+    ∷ ends (countService sampleOrder twoRules Samples (a ∷ []) room) 7 0 0 0
+    ∷ ends (locateService sampleOrder ofAbab Samples (b ∷ a ∷ b ∷ []) room (replicate 1 7)) 0 0 1 2
+    ∷ ends (locateService sampleOrder [] Samples [] [] []) 2 0 0 0
+    ∷ ends (locateService sampleOrder twoRules Samples (a ∷ []) room (replicate 2 7)) 7 0 0 0
+    ∷ ends (countService sampleOrder ofSteps Steps (0 ∷ 2 ∷ []) room) 0 0 3 0
+    ∷ ends (countService sampleOrder ofSteps Samples (0 ∷ 2 ∷ []) room) 0 0 0 5
+    ∷ ends (countService sampleOrder ofSteps Steps (254 ∷ 0 ∷ 2 ∷ []) room) 0 0 1 5
+    ∷ ends (countService sampleOrder [] Steps [] []) 2 0 0 0
+    ∷ ends (countService sampleOrder [] Steps (a ∷ []) []) 10 0 0 0
+    ∷ ends (countService sampleOrder [] Steps (a ∷ a ∷ []) []) 4 0 0 0
+    ∷ ends (countService sampleOrder [] Samples (a ∷ []) []) 4 0 0 0
+    ∷ ends (locateService sampleOrder [] Steps (a ∷ []) [] []) 10 0 0 0
+    ∷ ends (locateService sampleOrder ofSteps Steps (0 ∷ 2 ∷ []) room (replicate 2 7)) 9 3 0 0
+    ∷ ends (toStepsService moved (replicate 5 7)) 0 0 5 0
+    ∷ ends (toStepsService moved (replicate 4 7)) 9 5 0 0
+    ∷ ends (fromStepsService moved (replicate 5 7)) 0 0 5 0
+    ∷ ends (fromStepsService moved (replicate 4 7)) 9 5 0 0
     ∷ ends (cutsService sampleOrder [] []) 2 0 0 0
-    ∷ ends (locateService sampleOrder (tableOf sampleOrder (a ∷ a ∷ a ∷ a ∷ []) 0) (a ∷ a ∷ []) room (replicate 2 7)) 9 3 0 0
+    ∷ ends (locateService sampleOrder (tableOf sampleOrder (a ∷ a ∷ a ∷ a ∷ []) 0) Samples (a ∷ a ∷ []) room (replicate 2 7)) 9 3 0 0
     ∷ ends (cutsService sampleOrder (a ∷ a ∷ b ∷ a ∷ []) (replicate 1 7)) 9 2 0 0
     ∷ ends (cutsService sampleOrder (a ∷ a ∷ a ∷ a ∷ []) (replicate 1 7)) 9 2 0 0
     ∷ ends (lyndonLengthService sampleOrder ofAbab 2 room) 0 0 2 0
@@ -306,8 +354,11 @@ samples =
     ∷ leaves (convertOrderService formerOrder sampleOrder ofRising room (replicate 10 7)) (replicate 10 7)
     ∷ leaves (lyndonArrayService sampleOrder ofAbab room (replicate 5 7)) (2 ∷ 1 ∷ 2 ∷ 1 ∷ 7 ∷ [])
     ∷ leaves (extractService sampleOrder ofAbab 1 2 room (replicate 3 7)) (b ∷ a ∷ 7 ∷ [])
-    ∷ leaves (locateService sampleOrder ofAbab (a ∷ b ∷ []) room (replicate 1 7)) (7 ∷ [])
-    ∷ leaves (locateService sampleOrder ofAbab (a ∷ b ∷ []) room (replicate 3 7)) (0 ∷ 2 ∷ 7 ∷ [])
+    ∷ leaves (locateService sampleOrder ofAbab Samples (a ∷ b ∷ []) room (replicate 1 7)) (7 ∷ [])
+    ∷ leaves (locateService sampleOrder ofAbab Samples (a ∷ b ∷ []) room (replicate 3 7)) (0 ∷ 2 ∷ 7 ∷ [])
+    ∷ leaves (locateService sampleOrder ofSteps Steps (0 ∷ 2 ∷ []) room (replicate 4 7)) (0 ∷ 1 ∷ 3 ∷ 7 ∷ [])
+    ∷ leaves (toStepsService moved (replicate 6 7)) (5 ∷ 2 ∷ 2 ∷ 250 ∷ 2 ∷ 7 ∷ [])
+    ∷ leaves (fromStepsService (5 ∷ 2 ∷ 2 ∷ 250 ∷ 2 ∷ []) (replicate 6 7)) (moved ++ 7 ∷ [])
     ∷ leaves (cutsService sampleOrder (a ∷ a ∷ b ∷ a ∷ []) (replicate 3 7)) (1 ∷ 3 ∷ 7 ∷ [])
     ∷ leaves (cutsService sampleOrder (a ∷ a ∷ a ∷ a ∷ []) (replicate 3 7)) (1 ∷ 3 ∷ 7 ∷ [])
     ∷ clearing (room ++ 7 ∷ []) (0 ∷ 0 ∷ 7 ∷ [])
@@ -316,7 +367,9 @@ samples =
     ∷ clears (checkService sampleOrder (drop 2 ofAbab) room) false
     ∷ clears (checkService sampleOrder [] room) false
     ∷ leaves (checkService sampleOrder ofAbab (7 ∷ [])) (7 ∷ [])
-    ∷ clears (countService sampleOrder ofAbab [] room) false
+    ∷ clears (countService sampleOrder ofAbab Samples [] room) false
+    ∷ clears (countService sampleOrder ofAbab Steps (a ∷ []) room) false
+    ∷ clears (countService sampleOrder ofAbab Steps (a ∷ a ∷ []) room) true
     ∷ clears (extractService sampleOrder ofAbab 4 1 room []) true
     ∷ clears (lyndonLengthService sampleOrder ofAbab 4 room) true
     ∷ clears (lyndonArrayService sampleOrder ofAbab room (replicate 3 7)) true
@@ -357,17 +410,21 @@ samples =
     ∷ prints (replicate 4095 a) (refusedWith 3)
     ∷ ends (buildService sampleOrder (replicate 2048 a) 40 (drop 1 room) []) 1 0 0 0
     ∷ ends (buildService sampleOrder (replicate 2047 a) 40 (drop 1 room) []) 4 0 0 0
-    ∷ ends (countService sampleOrder [] (replicate 2048 a) []) 3 0 0 0
-    ∷ ends (countService sampleOrder [] (replicate 2047 a) []) 4 0 0 0
-    ∷ ends (locateService sampleOrder [] (replicate 2048 a) [] []) 3 0 0 0
+    ∷ ends (countService sampleOrder [] Samples (replicate 2048 a) []) 3 0 0 0
+    ∷ ends (countService sampleOrder [] Samples (replicate 2047 a) []) 4 0 0 0
+    ∷ ends (locateService sampleOrder [] Samples (replicate 2048 a) [] []) 3 0 0 0
+    ∷ ends (countService sampleOrder [] Steps (replicate 2048 a) []) 3 0 0 0
+    ∷ ends (toStepsService (replicate 2048 a) []) 1 0 0 0
+    ∷ ends (toStepsService (replicate 2047 a) []) 9 2047 0 0
+    ∷ ends (fromStepsService (replicate 2048 a) []) 1 0 0 0
     ∷ ends (cutsService sampleOrder (replicate 2048 a) []) 3 0 0 0
     ∷ clears (buildService sampleOrder (replicate 2048 a) 40 room []) false
-    ∷ clears (countService sampleOrder [] (replicate 2048 a) room) false
+    ∷ clears (countService sampleOrder [] Samples (replicate 2048 a) room) false
     ∷ ends (checkService sampleOrder (replicate 4610 0) room) 5 0 0 0
     ∷ ends (checkService sampleOrder (replicate 4608 0) room) 6 1 0 0
     ∷ []
 
 -- every sample holds
 pub samples-hold : all samples ≡ true
-unfolding edges holds all samples parts readOutcome searchOf replyOf searchReplyOf every below least placed same begins lexlt firstDifference lyndon cutOf greatest lyndonLength lyndonArray leftOf rightOf word split lyndonTree indexOf meet visit order ruleOf rulesOf rankOf byteOf numberOfRank rankOfNumber marked wordOf kindOf numberOf ruleWords words tableOf badFirst badSecond badWord stringOf strings ruleString isPair leftHalf rightHalf spelled textOf chairOf isDrive isChair isTable occurrences notGreaterAtDifference isLive liveCuts wordAgain isListed listedCuts patternCuts straddles straddling cutIn cutAt fitsJoin isTested testsOf testsBelow tests flat firstMet outcome outcomeOf cleared slicesAfter last tableChecks patternChecks buildService checkService readService extractService countService locateService cutsService lyndonLengthService lyndonArrayService convertOrderService digits digitsUpTo digitCount decimal line named decimalLines refusedLine printed motifOf driveOf foundLines motifOutput
+unfolding edges holds all samples parts readOutcome searchOf replyOf searchReplyOf every below least placed same begins lexlt firstDifference lyndon cutOf greatest lyndonLength lyndonArray leftOf rightOf word split lyndonTree indexOf meet visit order ruleOf rulesOf rankOf byteOf numberOfRank rankOfNumber marked wordOf kindOf numberOf ruleWords words tableOf badFirst badSecond badWord stringOf strings ruleString isPair leftHalf rightHalf spelled textOf chairOf isDrive isChair isTable occurrences notGreaterAtDifference isLive liveCuts wordAgain isListed listedCuts patternCuts straddles straddling cutIn cutAt fitsJoin isTested testsOf testsBelow tests step stepsOf toSteps samplesFrom fromSteps stepFinds searched finds flat firstMet outcome outcomeOf cleared slicesAfter last tableChecks patternChecks searchChecks buildService checkService readService extractService countService locateService cutsService lyndonLengthService lyndonArrayService convertOrderService toStepsService fromStepsService contentOf digits digitsUpTo digitCount decimal line named decimalLines refusedLine printed motifOf driveOf foundLines motifOutput
 samples-hold = refl

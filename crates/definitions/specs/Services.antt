@@ -1,4 +1,4 @@
--- What each service answers and leaves in the slices lent to it (document 01, "When a request is turned down"; document 02, S-1 to S-4).
+-- What each service answers and leaves in the slices lent to it (document 01, "When a request is turned down"; document 02, S-1 to S-6).
 -- A service's checks are an ordered list; the first that is met decides number, place and what becomes of each lent slice.
 use Prim.Native.Nat.{ℕ, _+_, _%_}
 use mathlib.Core.Bool.{Bool, true, false, cond, not, _||_}
@@ -8,6 +8,8 @@ use lib.ListN.{length, take, drop, replicate}
 use lib.Dec.{ltb, eqb}
 use Rattle.definitions.specs.declared.Order.{Order}
 use Rattle.definitions.specs.declared.Order.the-variants.{Unsigned, Signed}
+use Rattle.definitions.specs.declared.Content.{Content}
+use Rattle.definitions.specs.declared.Content.the-variants.{Samples, Steps}
 use Rattle.definitions.specs.declared.Answer.{Answer}
 use Rattle.definitions.specs.declared.Answer.the-variants as answer
 use Rattle.definitions.specs.declared.ReadAnswer.{ReadAnswer}
@@ -15,7 +17,8 @@ use Rattle.definitions.specs.declared.ReadAnswer.the-variants as read
 use Rattle.definitions.specs.declared.Search.{Search}
 use Rattle.definitions.specs.Words.{least, placed, lyndonLength, lyndonArray}
 use Rattle.definitions.specs.Table.{rankOf, tableOf, badWord, isTable, textOf, chairOf, ruleCount}
-use Rattle.definitions.specs.Occurrences.{occurrences, patternCuts, tests}
+use Rattle.definitions.specs.Occurrences.{patternCuts, tests}
+use Rattle.definitions.specs.Steps.{toSteps, fromSteps, searched, finds}
 
 -- ---- outcomes
 
@@ -115,6 +118,9 @@ patternEmpty p = check (eqb (length p) 0) 2 0 false
 abbrev pub patternTooLong : List ℕ → Check
 patternTooLong p = check (ltb 2047 (length p)) 3 0 false
 
+abbrev pub noStep : List ℕ → Check
+noStep p = check (eqb (length p) 1) 10 0 false
+
 -- of a work slice of n words
 abbrev pub workTooShort : ℕ → Check
 workTooShort n = check (ltb n 16384) 4 0 false
@@ -153,6 +159,11 @@ tableChecks o t n = workTooShort n ∷ tableLength (length t) ∷ hasBadWord t �
 unfoldable pub patternChecks : List ℕ → List Check
 patternChecks p = patternEmpty p ∷ patternTooLong p ∷ []
 
+-- of a pattern that is searched for in a table, by what the table holds
+unfoldable pub searchChecks : Content → List ℕ → List Check
+searchChecks Samples p = patternChecks p
+searchChecks Steps p = patternChecks p ++ (noStep p ∷ [])
+
 -- what a service that answers alone gives; one that writes a list gives the number of its entries, and the number beside it
 abbrev pub gives : List Check → Outcome → Service
 gives checks success = record { checks = checks; success = success; lent = [] }
@@ -183,15 +194,15 @@ extractService o t start count work result =
     let text = textOf o t in
     working work (writes (tableChecks o t (length work) ++ (rangePastEnd (length text) start count ∷ [])) (take count (drop start text)) 0 result)
 
--- count the occurrences of a pattern, and the tests
-unfoldable pub countService : Order → List ℕ → List ℕ → List ℕ → Service
-countService o t p work =
-    working work (gives (patternChecks p ++ tableChecks o t (length work)) (done (length (occurrences p (textOf o t))) (length (tests o t p))))
+-- count the finds of a pattern in a table that holds samples or steps, and the tests: those of what is searched for
+unfoldable pub countService : Order → List ℕ → Content → List ℕ → List ℕ → Service
+countService o t c p work =
+    working work (gives (searchChecks c p ++ tableChecks o t (length work)) (done (length (finds c p (textOf o t))) (length (tests o t (searched c p)))))
 
--- list the occurrences of a pattern, and count the tests
-unfoldable pub locateService : Order → List ℕ → List ℕ → List ℕ → List ℕ → Service
-locateService o t p work result =
-    working work (writes (patternChecks p ++ tableChecks o t (length work)) (occurrences p (textOf o t)) (length (tests o t p)) result)
+-- list the finds, and count the tests
+unfoldable pub locateService : Order → List ℕ → Content → List ℕ → List ℕ → List ℕ → Service
+locateService o t c p work result =
+    working work (writes (searchChecks c p ++ tableChecks o t (length work)) (finds c p (textOf o t)) (length (tests o t (searched c p))) result)
 
 -- list the live cuts of a pattern, but those that are dropped
 unfoldable pub cutsService : Order → List ℕ → List ℕ → Service
@@ -210,3 +221,10 @@ lyndonArrayService o t work result = working work (writes (tableChecks o t (leng
 -- convert a table from one order of samples to another: the table of its drive and chair number there
 unfoldable pub convertOrderService : Order → Order → List ℕ → List ℕ → List ℕ → Service
 convertOrderService o p t work result = working work (writes (tableChecks o t (length work)) (tableOf p (textOf o t) (chairOf t)) 0 result)
+
+-- rearrange a drive to its steps, and restore it
+unfoldable pub toStepsService : List ℕ → List ℕ → Service
+toStepsService text result = writes (textTooLong text ∷ []) (toSteps text) 0 result
+
+unfoldable pub fromStepsService : List ℕ → List ℕ → Service
+fromStepsService text result = writes (textTooLong text ∷ []) (fromSteps text) 0 result

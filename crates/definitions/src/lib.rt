@@ -1,9 +1,15 @@
-// The answers of the services, and the order of samples. What each means is said in specs/.
+// The answers of the services, the order of samples, and what a table holds. What each means is said in specs/.
 
 // The order in which samples are compared: as unsigned bytes, or as signed ones, where a byte of 128 or more means itself minus 256.
 pub enum Order {
     Unsigned,
     Signed,
+}
+
+// What a table holds: the samples of a drive, or its steps. The table does not say which; whoever searches it does.
+pub enum Content {
+    Samples,
+    Steps,
 }
 
 // The service is done, with the number that success gives; or it is refused, with number and place.

@@ -52,6 +52,10 @@ unfolding firstMet
 passed-front b f x none = refl
 passed-front b f x (more c e p) = rw e (passed-front b f x p)
 
+pub both-passed : {a b : List Check} → Passed a → Passed b → Passed (a ++ b)
+both-passed none q = q
+both-passed (more c e p) q = more c e (both-passed p q)
+
 -- ---- answers
 
 -- the answer of one check: the refusal where it is met, else what goes on; and that of several in order

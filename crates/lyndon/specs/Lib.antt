@@ -13,6 +13,7 @@ pub mod Tables
 pub mod Tests
 pub mod Stored
 pub mod Occurrences
+pub mod Steps
 pub mod Cuts
 pub mod Differences
 pub mod Listed

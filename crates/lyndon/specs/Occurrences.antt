@@ -1,10 +1,9 @@
 -- Occurrences: a position stands in the list exactly when the pattern begins there (`occurrence-is`, `is-occurrence`), rising, each once
--- (`occurrences-rising`), none before the first, between two neighbours or after the last, and the list is empty exactly when the
--- pattern begins nowhere. Those in mark ++ text are those in the text, one further on (`occurrences-marked`).
+-- (`occurrences-rising`). Those in mark ++ text are those in the text, one further on (`occurrences-marked`).
 use mathlib.Core.Path.{_≡_, refl, sym, _∙_, ap, ap₂, subst}
-use mathlib.Core.Bool.{Bool, true, false, _&&_}
-use mathlib.Core.Logic.{⊎-elim, _↔_}
-use mathlib.Core.List.{List, [], _∷_, _++_, map, append-nil, List·Memᴰ as In, List·Memᴰ·head as here, List·Memᴰ·tail as there, List·Memᴰ·not-nil as in-nil, Memᴰ·append-right as in-right, List·Memᴰ·cases-cons as in-cons}
+use mathlib.Core.Bool.{Bool, true, false, cond, _&&_}
+use mathlib.Core.Logic.{_↔_}
+use mathlib.Core.List.{List, [], _∷_, _++_, map, append-nil, List·Memᴰ as In, List·Memᴰ·head as here, List·Memᴰ·tail as there}
 use Prim.Native.Nat.{ℕ, suc, _+_, _≤_, _<_}
 use native.Mathlib.Omega.{arith}
 use lib.ListN.{length, take, drop, length-append, length-drop, length-map, take-append-drop}
@@ -68,51 +67,16 @@ unfolding occurrences below begins
 occurrences-fewer [] s h = absurd (omega arith)
 occurrences-fewer (a ∷ p) s h = rw (drop-length s, append-nil) (below-length (λ i. begins (a ∷ p) (drop i s)) (length s))
 
--- ---- nothing begins unlisted
-
--- before the first
-before-first : (l : List ℕ) (k i : ℕ) → Rising (k ∷ l) → i < k → In i (k ∷ l) → ⊥
-before-first l k i r h m = ⊎-elim (λ e. omega arith) (λ n. omega (arith, r .0 i n)) (in-cons m)
-
-pub none-before : (p s : List ℕ) (k : ℕ) (l : List ℕ) → occurrences p s ≡ k ∷ l → (i : ℕ) → i < k → BeginsAt p s i → ⊥
-none-before p s k l e i h b =
-    before-first l k i (subst Rising e (occurrences-rising p s)) h (subst (λ (x : List ℕ). In i x) e (is-occurrence p s i b))
-
--- between two neighbours
-rising-drop : (l m : List ℕ) → Rising (l ++ m) → Rising m
-rising-drop [] m r = r
-rising-drop (k ∷ l) m r = rising-drop l m (r .1)
-
--- what stands in a rising list and is greater than an entry stands behind it
-stands-behind : (l : List ℕ) (j : ℕ) (m : List ℕ) (i : ℕ) → Rising (l ++ j ∷ m) → j < i → In i (l ++ j ∷ m) → In i m
-stands-behind [] j m i r h n = ⊎-elim (λ e. absurd (omega arith)) (λ x. x) (in-cons n)
-stands-behind (k ∷ l) j m i r h n = ⊎-elim
-    (λ e. absurd (omega (arith, r .0 j (in-right l (here refl)))))
-    (λ x. stands-behind l j m i (r .1) h x)
-    (in-cons n)
-
-pub none-between : (p s : List ℕ) (l : List ℕ) (j k : ℕ) (m : List ℕ) → occurrences p s ≡ l ++ j ∷ k ∷ m
-    → (i : ℕ) → j < i → i < k → BeginsAt p s i → ⊥
-none-between p s l j k m e i h h′ b =
-    let r = subst Rising e (occurrences-rising p s) in
-    before-first m k i (rising-drop l (j ∷ k ∷ m) r .1) h′
-    (stands-behind l j (k ∷ m) i r h (subst (λ (x : List ℕ). In i x) e (is-occurrence p s i b)))
-
--- after the last
-pub none-after : (p s : List ℕ) (l : List ℕ) (j : ℕ) → occurrences p s ≡ l ++ j ∷ [] → (i : ℕ) → j < i → BeginsAt p s i → ⊥
-none-after p s l j e i h b =
-    in-nil (stands-behind l j [] i (subst Rising e (occurrences-rising p s)) h (subst (λ (x : List ℕ). In i x) e (is-occurrence p s i b)))
-
--- the list is empty exactly when the pattern begins nowhere
-pub empty-nowhere : (p s : List ℕ) → (occurrences p s ≡ []) ↔ ((i : ℕ) → BeginsAt p s i → ⊥)
-empty-nowhere p s = (
-  λ e i b. in-nil (subst (λ (x : List ℕ). In i x) e (is-occurrence p s i b)),
-  λ h. in-none (occurrences p s) (λ i m. h i (occurrence-is p s i m)),
-)
-
--- so for a pattern longer than the string
+-- a pattern that is longer than the string occurs nowhere
 pub longer-nowhere : (p s : List ℕ) → length s < length p → occurrences p s ≡ []
-longer-nowhere p s h = empty-nowhere p s .1 (λ i b. omega (arith, b .0))
+longer-nowhere p s h = in-none (occurrences p s) (λ i m. omega (arith, occurrence-is p s i m .0))
+
+-- those in a string: one at its start, if the pattern begins there, and those behind its first symbol
+pub occurrences-first : (p s : List ℕ) → 0 < length p → occurrences p s ≡ cond (begins p s) (0 ∷ []) [] ++ map suc (occurrences p (drop 1 s))
+unfolding occurrences below begins
+occurrences-first [] s h = absurd (omega arith)
+occurrences-first (a ∷ p) [] h = refl
+occurrences-first (a ∷ p) (b ∷ s) h = below-shift (λ k. begins (a ∷ p) (drop k (b ∷ s))) (suc (length s))
 
 -- ---- the marked text
 

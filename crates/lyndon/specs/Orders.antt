@@ -12,10 +12,12 @@ use lib.Dec.{ltb, eqb}
 use borrow.Author.Tests.{lt-ltb, le-ltb, eq-eqb, ne-eqb, not-false}
 use Rattle.definitions.specs.declared.Order.{Order}
 use Rattle.definitions.specs.declared.Order.the-variants.{Unsigned, Signed}
+use Rattle.definitions.specs.declared.Content.{Content}
+use Rattle.definitions.specs.declared.Content.the-variants.{Samples, Steps}
 use Rattle.definitions.specs.declared.Answer.{Answer}
 use Rattle.definitions.specs.Words.{placed, lexlt}
 use Rattle.definitions.specs.Table.{rankOf, byteOf, numberOfRank, rankOfNumber, marked, tableOf, ruleString, spelled, textOf, chairOf, isTable, ruleCount}
-use Rattle.definitions.specs.Services.{sampleOrder, formerOrder, Check, Service, Outcome, done, refused, outcomeOf, firstMet, cleared, outcome, slicesAfter, Serves, Answers, workTooShort, tableLength, hasBadWord, notATable, resultTooShort, tableChecks, patternChecks, checkService, readService, extractService, countService, locateService, convertOrderService}
+use Rattle.definitions.specs.Services.{sampleOrder, formerOrder, Check, Service, Outcome, done, refused, outcomeOf, firstMet, cleared, outcome, slicesAfter, Serves, Answers, workTooShort, tableLength, hasBadWord, notATable, resultTooShort, tableChecks, patternChecks, searchChecks, checkService, readService, extractService, countService, locateService, convertOrderService}
 use Rattle.lists.specs.Bools.{not-so}
 use Rattle.lists.specs.Numbers.{split-le, split-lt, every-at, every-all}
 use Rattle.lists.specs.Lists.{Overlap, within, across, overlap, placed-front}
@@ -395,17 +397,25 @@ module _ (o p : Order) (t u : List ℕ) (h : Acceptable o t) (k : Acceptable p u
   unfolding outcome slicesAfter extractService tableChecks firstMet
   alike-extract start count work result = (rw (h .0, h .1, h .2, k .0, k .1, k .2, e), rw (h .0, h .1, h .2, k .0, k .1, k .2, e))
 
-  alike-count : (pattern work : List ℕ) → FindAlike (countService p u pattern work) (countService o t pattern work)
-  unfolding slicesAfter countService patternChecks tableChecks firstMet alone
-  alike-count pattern work = (
-    alone-alike (countService p u pattern work) (countService o t pattern work) (rw (h .0, h .1, h .2, k .0, k .1, k .2, e)),
+  alike-count : (c : Content) (pattern work : List ℕ) → FindAlike (countService p u c pattern work) (countService o t c pattern work)
+  unfolding slicesAfter countService searchChecks patternChecks tableChecks firstMet alone
+  alike-count Samples pattern work = (
+    alone-alike (countService p u Samples pattern work) (countService o t Samples pattern work) (rw (h .0, h .1, h .2, k .0, k .1, k .2, e)),
+    rw (h .0, h .1, h .2, k .0, k .1, k .2),
+  )
+  alike-count Steps pattern work = (
+    alone-alike (countService p u Steps pattern work) (countService o t Steps pattern work) (rw (h .0, h .1, h .2, k .0, k .1, k .2, e)),
     rw (h .0, h .1, h .2, k .0, k .1, k .2),
   )
 
-  alike-locate : (pattern work result : List ℕ) → FindAlike (locateService p u pattern work result) (locateService o t pattern work result)
-  unfolding slicesAfter locateService patternChecks tableChecks firstMet alone
-  alike-locate pattern work result = (
-    alone-alike (locateService p u pattern work result) (locateService o t pattern work result) (rw (h .0, h .1, h .2, k .0, k .1, k .2, e)),
+  alike-locate : (c : Content) (pattern work result : List ℕ) → FindAlike (locateService p u c pattern work result) (locateService o t c pattern work result)
+  unfolding slicesAfter locateService searchChecks patternChecks tableChecks firstMet alone
+  alike-locate Samples pattern work result = (
+    alone-alike (locateService p u Samples pattern work result) (locateService o t Samples pattern work result) (rw (h .0, h .1, h .2, k .0, k .1, k .2, e)),
+    rw (h .0, h .1, h .2, k .0, k .1, k .2, e),
+  )
+  alike-locate Steps pattern work result = (
+    alone-alike (locateService p u Steps pattern work result) (locateService o t Steps pattern work result) (rw (h .0, h .1, h .2, k .0, k .1, k .2, e)),
     rw (h .0, h .1, h .2, k .0, k .1, k .2, e),
   )
 
@@ -423,8 +433,8 @@ pub record Converted (o p : Order) (t u : List ℕ) : Type 0 where
   -- whatever is lent, reading by p answers of u what reading by o answers of t, and so does extracting; counting and locating find the same
   pub reads : (work result : List ℕ) → Alike (readService p u work result) (readService o t work result)
   pub extracts : (start count : ℕ) (work result : List ℕ) → Alike (extractService p u start count work result) (extractService o t start count work result)
-  pub counts : (pattern work : List ℕ) → FindAlike (countService p u pattern work) (countService o t pattern work)
-  pub locates : (pattern work result : List ℕ) → FindAlike (locateService p u pattern work result) (locateService o t pattern work result)
+  pub counts : (c : Content) (pattern work : List ℕ) → FindAlike (countService p u c pattern work) (countService o t c pattern work)
+  pub locates : (c : Content) (pattern work result : List ℕ) → FindAlike (locateService p u c pattern work result) (locateService o t c pattern work result)
 
 converted : (o p : Order) (t : List ℕ) → Acceptable o t → Converted o p t (tableOf p (textOf o t) (chairOf t))
 converted o p t h =

@@ -11,9 +11,11 @@ use lib.ListN.{length, getD, length-map}
 use lib.Dec.{ltb, eqb}
 use borrow.Author.Tests.{ltb-true, eqb-true}
 use Rattle.definitions.specs.declared.Order.{Order}
+use Rattle.definitions.specs.declared.Content.{Content}
 use Rattle.definitions.specs.Grammar.{leftOf, rightOf, order}
 use Rattle.definitions.specs.Table.{rankOf, numberOfRank, marked, words, kindOf, numberOf, tableOf, isTable, textOf, chairOf, isPair, leftHalf, rightHalf, ruleString, ruleCount}
 use Rattle.definitions.specs.Occurrences.{occurrences, liveCuts, listedCuts, patternCuts, straddling, cutAt}
+use Rattle.definitions.specs.Steps.{searched}
 use Rattle.lists.specs.Bools.{and-left, and-right}
 use Rattle.lyndon.specs.Factorization.{Std, std-parts}
 use Rattle.lyndon.specs.Rules.{rulesFor}
@@ -101,15 +103,18 @@ pub pair-occurrences-live : (o : Order) (t : List ℕ) → isTable o t ≡ true 
     ++ (cutAt p (liveCuts p) (leftHalf o t r) (rightHalf o t r) ++ map (λ (k : ℕ). length (leftHalf o t r) + k) (occurrences p (rightHalf o t r)))
 pair-occurrences-live o t a r e p h = occurrences-at o t a r e p (liveCuts p) (live-suffice p) h
 
--- the same for a pattern of samples and its listed cuts
-pub pattern-straddling : (o : Order) (t : List ℕ) → isTable o t ≡ true → (r : ℕ) → isPair t r ≡ true → (p : List ℕ)
-    → straddling (map (rankOf o) p) (leftHalf o t r) (rightHalf o t r) ≡ cutAt (map (rankOf o) p) (patternCuts o p) (leftHalf o t r) (rightHalf o t r)
-unfolding patternCuts
-pattern-straddling o t a r e p = pair-straddling o t a r e (map (rankOf o) p)
+-- the same for what is searched for, samples or the steps of a pattern, and its listed cuts
+module _ (o : Order) (t : List ℕ) (accepted : isTable o t ≡ true) (r : ℕ) (pair : isPair t r ≡ true) (c : Content) (p : List ℕ) where
+  abbrev q : List ℕ
+  q = map (rankOf o) (searched c p)
 
-pub pattern-occurrences : (o : Order) (t : List ℕ) → isTable o t ≡ true → (r : ℕ) → isPair t r ≡ true → (p : List ℕ) → 0 < length p
-    → occurrences (map (rankOf o) p) (ruleString o t r)
-    ≡ occurrences (map (rankOf o) p) (leftHalf o t r)
-    ++ (cutAt (map (rankOf o) p) (patternCuts o p) (leftHalf o t r) (rightHalf o t r) ++ map (λ (k : ℕ). length (leftHalf o t r) + k) (occurrences (map (rankOf o) p) (rightHalf o t r)))
-unfolding patternCuts
-pattern-occurrences o t a r e p h = pair-occurrences o t a r e (map (rankOf o) p) (omega (arith, length-map p (rankOf o)))
+  pub pattern-straddling : straddling q (leftHalf o t r) (rightHalf o t r) ≡ cutAt q (patternCuts o (searched c p)) (leftHalf o t r) (rightHalf o t r)
+  unfolding patternCuts
+  pattern-straddling = pair-straddling o t accepted r pair q
+
+  pub pattern-occurrences : 0 < length (searched c p)
+      → occurrences q (ruleString o t r)
+      ≡ occurrences q (leftHalf o t r)
+      ++ (cutAt q (patternCuts o (searched c p)) (leftHalf o t r) (rightHalf o t r) ++ map (λ (k : ℕ). length (leftHalf o t r) + k) (occurrences q (rightHalf o t r)))
+  unfolding patternCuts
+  pattern-occurrences h = pair-occurrences o t accepted r pair q (omega (arith, length-map (searched c p) (rankOf o)))
