@@ -2,20 +2,21 @@
 // neither each other nor the inputs, and word pointers are aligned: that is the caller's part.
 use definitions::Reply;
 use definitions::SearchReply;
+use replies::content_of;
 use replies::replied;
 use replies::replied_read;
 use replies::replied_search;
 ghost use mathlib.Core.Path.{_≡_};
 ghost use mathlib.Core.List.{[], _∷_};
-ghost use Rattle.definitions.specs.Services.{Serves, sampleOrder, formerOrder, buildService, checkService, readService, extractService, countService, locateService, cutsService, lyndonLengthService, lyndonArrayService, convertOrderService};
-ghost use Rattle.definitions.specs.Replies.{Replies, SearchReplies, interfaceNumber};
+ghost use Rattle.definitions.specs.Services.{Serves, sampleOrder, formerOrder, buildService, checkService, readService, extractService, countService, locateService, cutsService, lyndonLengthService, lyndonArrayService, convertOrderService, toStepsService, fromStepsService};
+ghost use Rattle.definitions.specs.Replies.{Replies, SearchReplies, contentOf, interfaceNumber};
 
 // The number of this interface, by which a program can tell another library from its own.
 #[no_mangle]
 pub extern "C" fn sirbolta_interface() -> u32
     ensures { λ r. ⌜ r ≡ interfaceNumber ⌝ }
 {
-    2
+    3
 }
 
 // Builds the table of a text and a chair number: `index::build`.
@@ -61,25 +62,31 @@ pub extern "C" fn sirbolta_extract(
     replied(index::extract(table, start, count, work, result))
 }
 
-// Counts the occurrences of a pattern: `index::count`.
+// Counts the finds of a pattern in a table that holds what the form says: `index::count`.
 #[no_mangle]
-pub extern "C" fn sirbolta_count(table: &[u32], pattern: &[u8], work: &mut [u32]) -> SearchReply
-    ensures { λ r. ⌜ Serves (countService sampleOrder (now (table .entry)) (now (pattern .entry)) (now (work .entry))) (SearchReplies r) (now (work .exit) ∷ []) ⌝ }
+pub extern "C" fn sirbolta_count(
+    table: &[u32],
+    form: u32,
+    pattern: &[u8],
+    work: &mut [u32],
+) -> SearchReply
+    ensures { λ r. ⌜ Serves (countService sampleOrder (now (table .entry)) (contentOf form) (now (pattern .entry)) (now (work .entry))) (SearchReplies r) (now (work .exit) ∷ []) ⌝ }
 {
-    replied_search(index::count(table, pattern, work))
+    replied_search(index::count(table, content_of(form), pattern, work))
 }
 
-// Lists the occurrences of a pattern: `index::locate`.
+// Lists them: `index::locate`.
 #[no_mangle]
 pub extern "C" fn sirbolta_locate(
     table: &[u32],
+    form: u32,
     pattern: &[u8],
     work: &mut [u32],
     result: &mut [u32],
 ) -> SearchReply
-    ensures { λ r. ⌜ Serves (locateService sampleOrder (now (table .entry)) (now (pattern .entry)) (now (work .entry)) (now (result .entry))) (SearchReplies r) (now (work .exit) ∷ now (result .exit) ∷ []) ⌝ }
+    ensures { λ r. ⌜ Serves (locateService sampleOrder (now (table .entry)) (contentOf form) (now (pattern .entry)) (now (work .entry)) (now (result .entry))) (SearchReplies r) (now (work .exit) ∷ now (result .exit) ∷ []) ⌝ }
 {
-    replied_search(index::locate(table, pattern, work, result))
+    replied_search(index::locate(table, content_of(form), pattern, work, result))
 }
 
 // Lists the live cuts of a pattern that a search tries: `index::live_cuts`.
@@ -116,4 +123,20 @@ pub extern "C" fn sirbolta_to_signed(table: &[u32], work: &mut [u32], result: &m
     ensures { λ r. ⌜ Serves (convertOrderService formerOrder sampleOrder (now (table .entry)) (now (work .entry)) (now (result .entry))) (Replies r) (now (work .exit) ∷ now (result .exit) ∷ []) ⌝ }
 {
     replied(index::to_signed(table, work, result))
+}
+
+// The drive rearranged to its steps: `index::to_steps`.
+#[no_mangle]
+pub extern "C" fn sirbolta_to_steps(text: &[u8], result: &mut [u8]) -> Reply
+    ensures { λ r. ⌜ Serves (toStepsService (now (text .entry)) (now (result .entry))) (Replies r) (now (result .exit) ∷ []) ⌝ }
+{
+    replied(index::to_steps(text, result))
+}
+
+// The drive restored: `index::from_steps`.
+#[no_mangle]
+pub extern "C" fn sirbolta_from_steps(text: &[u8], result: &mut [u8]) -> Reply
+    ensures { λ r. ⌜ Serves (fromStepsService (now (text .entry)) (now (result .entry))) (Replies r) (now (result .exit) ∷ []) ⌝ }
+{
+    replied(index::from_steps(text, result))
 }

@@ -1,11 +1,12 @@
 // What the services share: the checks of what is handed over, each a small function that answers its refusal or goes on with what was accepted; and
 // clearing the work slice afterwards. `results` has the checks of what is asked for and written.
 use definitions::Answer;
+use definitions::Content;
 use layout::WORK;
 ghost use mathlib.Core.Path.{_≡_};
 ghost use Prim.Native.Nat.{_≤_};
 ghost use lib.ListN.{length};
-ghost use Rattle.definitions.specs.Services.{cleared, textTooLong, patternChecks, workTooShort, tableLength};
+ghost use Rattle.definitions.specs.Services.{cleared, textTooLong, patternChecks, searchChecks, workTooShort, tableLength};
 ghost use Rattle.layout.specs.Layout.{WORK};
 ghost use Rattle.lists.specs.Decisions.{checked, answered};
 
@@ -31,6 +32,23 @@ pub fn pattern_fits(pattern: &[u8]) -> Answer
         return Answer::Refused(3, 0);
     }
     Answer::Done(pattern.len())
+}
+
+// Refusals 2, 3 and, where a table holds steps, 10, or the number of samples.
+pub fn search_fits(content: Content, pattern: &[u8]) -> Answer
+    ensures { λ r. ⌜ r ≡ answered (searchChecks content (now (pattern .entry))) (length (now (pattern .entry))) ⌝ }
+{
+    let a = pattern_fits(pattern);
+    let Answer::Done(m) = a else {
+        return a;
+    };
+    let Content::Steps = content else {
+        return a;
+    };
+    if m == 1 {
+        return Answer::Refused(10, 0);
+    }
+    a
 }
 
 // Refusal 4 of a work slice of n words, or n.

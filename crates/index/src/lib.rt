@@ -7,6 +7,8 @@ pub use lyndon_words::lyndon_array;
 pub use lyndon_words::lyndon_length;
 pub use reading::extract;
 pub use reading::read;
+pub use rearranging::from_steps;
+pub use rearranging::to_steps;
 pub use searching::count;
 pub use searching::live_cuts;
 pub use searching::locate;

@@ -8,26 +8,34 @@ use joins::areas::length_of;
 use joins::areas::number_of;
 ghost use mathlib.Core.Path.{_≡_};
 ghost use mathlib.Core.List.{[], _∷_};
-ghost use Prim.Native.Nat.{_+_, _-_, _≤_, _<_, min};
-ghost use lib.ListN.{length};
+ghost use Prim.Native.Nat.{_+_, _≤_};
+ghost use lib.ListN.{length, drop};
 ghost use Rattle.definitions.specs.Words.{placed};
 ghost use Rattle.definitions.specs.Occurrences.{occurrences};
 ghost use Rattle.joins.specs.Joining.{cutPlace};
 ghost use Rattle.listing.specs.Listing.{Finds, inDrive, placedFrom, Listable, Listed, rulesCounted};
 
-// Writes the positions at which the pattern begins in the drive, rising, at the front of a slice. Answers how many there are.
-pub fn list(work: &[u32], rules: usize, result: &mut [u32]) -> usize
-    requires { ⌜ ((h : Finds (now work)) × (rules ≡ rulesCounted h) × (length (occurrences (h .pattern) (h .text)) ≤ length (now result))) ⌝ }
-    ensures { λ n. ⌜ ((h : Finds (now (work .entry))) → rules ≡ rulesCounted h → (n ≡ length (occurrences (h .pattern) (h .text))) × (now (result .exit) ≡ placed (occurrences (h .pattern) (h .text)) (now (result .entry)))) ⌝ }
+// Writes the positions at which the pattern begins in the drive, rising, at the front of a slice: from place `from` of the drive on, and counted from there. Answers how many
+// there are.
+pub fn list(work: &[u32], rules: usize, from: usize, result: &mut [u32]) -> usize
+    requires { ⌜ ((h : Finds (now work)) × (rules ≡ rulesCounted h) × (from ≤ 1) × (length (occurrences (h .pattern) (drop from (h .text))) ≤ length (now result))) ⌝ }
+    ensures { λ n. ⌜ ((h : Finds (now (work .entry))) → rules ≡ rulesCounted h → (n ≡ length (occurrences (h .pattern) (drop from (h .text)))) × (now (result .exit) ≡ placed (occurrences (h .pattern) (drop from (h .text))) (now (result .entry)))) ⌝ }
 {
-    list_rule(work, rules - 1, 0, result, 0)
+    list_rule(work, rules - 1, 0, from + 1, result, 0)
 }
 
 // The same for the occurrences in rule r, whose string stands at `at` in the marked text, behind the entries that are written: those of its left half and the
-// one at its join, then the rest, which is its right half. Answers how many entries are written then.
-fn list_rule(work: &[u32], r: usize, at: usize, result: &mut [u32], written: usize) -> usize
-    requires { ⌜ Listable (now work) r at written (length (now result)) ⌝ }
-    ensures { λ n. ⌜ Listed (now (work .entry)) r at written n (now (result .entry)) (now (result .exit)) ⌝ }
+// one at its join, then the rest, which is its right half. Places of the marked text are counted from `first` on. Answers how many entries are written then.
+fn list_rule(
+    work: &[u32],
+    r: usize,
+    at: usize,
+    first: usize,
+    result: &mut [u32],
+    written: usize,
+) -> usize
+    requires { ⌜ Listable (now work) first r at written (length (now result)) ⌝ }
+    ensures { λ n. ⌜ Listed (now (work .entry)) first r at written n (now (result .entry)) (now (result .exit)) ⌝ }
 {
     let mut n = written;
     let mut rest = r;
@@ -35,12 +43,12 @@ fn list_rule(work: &[u32], r: usize, at: usize, result: &mut [u32], written: usi
     while 0 < number_of(work, rest) {
         let rule = rule_in(work, rest);
         let Rule::Pair(u, v) = rule else {
-            return list_one(result, n, place);
+            return list_one(result, n, first, place);
         };
         let join = place + length_of(work, u);
         let c = cut_of(work, rest);
-        let m = list_half(work, u, place, result, n);
-        n = list_cut(result, m, join, c);
+        let m = list_half(work, u, place, first, result, n);
+        n = list_cut(result, m, first, join, c);
         place = join;
         rest = v;
     }
@@ -48,47 +56,46 @@ fn list_rule(work: &[u32], r: usize, at: usize, result: &mut [u32], written: usi
 }
 
 // The same, with no call where the rule has no occurrence or is a symbol.
-fn list_half(work: &[u32], r: usize, at: usize, result: &mut [u32], n: usize) -> usize
-    requires { ⌜ Listable (now work) r at n (length (now result)) ⌝ }
-    ensures { λ m. ⌜ Listed (now (work .entry)) r at n m (now (result .entry)) (now (result .exit)) ⌝ }
+fn list_half(
+    work: &[u32],
+    r: usize,
+    at: usize,
+    first: usize,
+    result: &mut [u32],
+    n: usize,
+) -> usize
+    requires { ⌜ Listable (now work) first r at n (length (now result)) ⌝ }
+    ensures { λ m. ⌜ Listed (now (work .entry)) first r at n m (now (result .entry)) (now (result .exit)) ⌝ }
 {
     if number_of(work, r) == 0 {
         return n;
     }
     let rule = rule_in(work, r);
     let Rule::Pair(_, _) = rule else {
-        return list_one(result, n, at);
+        return list_one(result, n, first, at);
     };
-    list_rule(work, r, at, result, n)
+    list_rule(work, r, at, first, result, n)
 }
 
 // The same for the occurrence that begins c symbols before a join, none if c is 0.
-fn list_cut(result: &mut [u32], n: usize, join: usize, c: usize) -> usize
-    requires { ⌜ (c ≤ join) × (join ≤ 2048) × (n + min 1 c ≤ length (now result)) ⌝ }
-    ensures { λ m. ⌜ (m ≡ n + min 1 c) × (now (result .exit) ≡ placedFrom n (inDrive 0 (cutPlace join c)) (now (result .entry))) ⌝ }
+fn list_cut(result: &mut [u32], n: usize, first: usize, join: usize, c: usize) -> usize
+    requires { ⌜ (c ≤ join) × (join ≤ 2048) × (n + length (inDrive first 0 (cutPlace join c)) ≤ length (now result)) ⌝ }
+    ensures { λ m. ⌜ (m ≡ n + length (inDrive first 0 (cutPlace join c))) × (now (result .exit) ≡ placedFrom n (inDrive first 0 (cutPlace join c)) (now (result .entry))) ⌝ }
 {
     if c == 0 {
         return n;
     }
-    list_one(result, n, join - c)
+    list_one(result, n, first, join - c)
 }
 
-// The same for one occurrence, at a place of the marked text: the drive begins behind the mark.
-fn list_one(result: &mut [u32], n: usize, place: usize) -> usize
-    requires { ⌜ (place ≤ 2048) × (n < length (now result)) ⌝ }
-    ensures { λ m. ⌜ (m ≡ n + 1) × (now (result .exit) ≡ placedFrom n (inDrive place (0 ∷ [])) (now (result .entry))) ⌝ }
+// The same for one occurrence, at a place of the marked text; none if that is before the first that counts.
+fn list_one(result: &mut [u32], n: usize, first: usize, place: usize) -> usize
+    requires { ⌜ (place ≤ 2048) × (n + length (inDrive first place (0 ∷ [])) ≤ length (now result)) ⌝ }
+    ensures { λ m. ⌜ (m ≡ n + length (inDrive first place (0 ∷ []))) × (now (result .exit) ≡ placedFrom n (inDrive first place (0 ∷ [])) (now (result .entry))) ⌝ }
 {
-    result[n] = behind_mark(place);
-    n + 1
-}
-
-// The position in the drive of a place of the marked text.
-fn behind_mark(place: usize) -> u32
-    requires { ⌜ place ≤ 2048 ⌝ }
-    ensures { λ r. ⌜ r ≡ place - 1 ⌝ }
-{
-    if place == 0 {
-        return 0;
+    if place < first {
+        return n;
     }
-    (place - 1) as u32
+    result[n] = (place - first) as u32;
+    n + 1
 }

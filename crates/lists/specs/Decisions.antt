@@ -77,6 +77,12 @@ module _ (checks : List Check) (n : ℕ) {r : Answer} (e : r ≡ answered checks
           let z : _≡_ {A = ℕ} 0 1 = cc in
           absurd (omega arith)
 
+  -- whatever checks follow
+  pub refused-already : {a b : ℕ} → r ≡ Refused a b → (rest : List Check) → r ≡ answered (checks ++ rest) n
+  refused-already h rest =
+      let (d, f, g) = refused-some h in
+      g ∙ sym (first-decides d (λ c. Refused (c .number) (c .place)) (Done n) (first-before rest f))
+
   -- one that goes on has met none, and hands on what was to be handed on
   pub done-all : {a : ℕ} → r ≡ Done a → Passed checks × (a ≡ n)
   done-all {a} h = go (decide checks)

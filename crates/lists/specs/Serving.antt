@@ -4,7 +4,7 @@
 use mathlib.Core.Path.{_≡_, refl, sym, _∙_, ap, ap₂, subst}
 use mathlib.Core.Bool.{Bool, true, false, cond}
 use mathlib.Core.Logic.{_⊎_, inl, inr}
-use mathlib.Core.List.{List, [], _∷_, _++_, map}
+use mathlib.Core.List.{List, [], _∷_, _++_, map, append-assoc}
 use Prim.Native.Nat.{ℕ}
 use native.Mathlib.Omega.{arith}
 use Rattle.definitions.specs.declared.Answer.{Answer}
@@ -53,6 +53,11 @@ module _ {checks : List Check} {success : Outcome} {lent : List Lent} {A : Outco
     slices = v .slices
         ∙ sym (same-map (λ x. firstMet (front ++ checks) (x .ifRefused) (x .ifDone)) (λ x. firstMet checks (x .ifRefused) (x .ifDone)) (λ x. passed-front checks (x .ifRefused) (x .ifDone) p) lent);
   }
+
+-- the checks may be grouped otherwise
+pub grouped : (a b c : List Check) {success : Outcome} {lent : List Lent} {A : Outcome → Type 0} {held : List (List ℕ)}
+    → Serves (by (a ++ (b ++ c)) success lent) A held → Serves (by ((a ++ b) ++ c) success lent) A held
+grouped a b c {success} {lent} {A} {held} v = subst (λ (checks : List Check). Serves (by checks success lent) A held) (sym (append-assoc a b c)) v
 
 -- and back: a service that is done has met none of its checks
 pub done-passed : (s : Service) {k c : ℕ} → outcome s ≡ done k c → Passed (s .checks)

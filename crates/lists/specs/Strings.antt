@@ -1,12 +1,14 @@
 -- Strings as values: `same` decides equality, and `begins` that one string is a prefix of another.
 use mathlib.Core.Path.{_≡_, refl, sym, ap₂}
-use mathlib.Core.Bool.{true, false≢true}
+use mathlib.Core.Bool.{Bool, true, false≢true, _&&_}
 use mathlib.Core.List.{List, [], _∷_, _++_}
-use Prim.Native.Nat.{ℕ}
+use Prim.Native.Nat.{ℕ, _≤_}
+use native.Mathlib.Omega.{arith}
+use lib.ListN.{length, take}
 use lib.Dec.{eqb}
 use borrow.Author.Tests.{eqb-true, eq-eqb}
 use Rattle.definitions.specs.Words.{same, begins}
-use Rattle.lists.specs.Bools.{and-left, and-right, and-intro}
+use Rattle.lists.specs.Bools.{and-left, and-right, and-intro, bool-ext}
 
 pub same-eq : (x y : List ℕ) → same x y ≡ true → x ≡ y
 unfolding same
@@ -40,3 +42,10 @@ begins-append (a ∷ p) r = and-intro (eqb a a) (begins p (p ++ r)) (eq-eqb a a 
 
 pub rest-begins : (p s r : List ℕ) → s ≡ p ++ r → begins p s ≡ true
 rest-begins p s r e = rw e (begins-append p r)
+
+-- where s is not shorter: its front is p
+pub front-begins : (p s : List ℕ) → length p ≤ length s → same (take (length p) s) p ≡ begins p s
+unfolding same begins
+front-begins [] s h = refl
+front-begins (a ∷ p) [] h = absurd (omega arith)
+front-begins (a ∷ p) (b ∷ s) h = ap₂ {C = Bool} (λ x y. x && y) (bool-ext (eqb b a) (eqb a b) (λ e. eq-eqb a b (sym (eqb-true b a e))) (λ e. eq-eqb b a (sym (eqb-true a b e)))) (front-begins p s (omega arith))

@@ -81,7 +81,7 @@ occurrences-first (a ∷ p) (b ∷ s) h = below-shift (λ k. begins (a ∷ p) (d
 -- ---- the marked text
 
 -- ranks begin where bytes begin
-begins-ranks : (o : Order) (p s : List ℕ) → Bytes p → Bytes s → begins (map (rankOf o) p) (map (rankOf o) s) ≡ begins p s
+pub begins-ranks : (o : Order) (p s : List ℕ) → Bytes p → Bytes s → begins (map (rankOf o) p) (map (rankOf o) s) ≡ begins p s
 unfolding begins
 begins-ranks o [] s hp hs = refl
 begins-ranks o (a ∷ p) [] hp hs = refl

@@ -189,6 +189,31 @@ steps-at a [] j h = absurd (omega arith)
 steps-at a (b ∷ x) zero h = refl
 steps-at a (b ∷ x) (suc j) h = steps-at b x j (omega arith)
 
+pub samples-at : (a : ℕ) (y : List ℕ) (j : ℕ) → j < length y → getD (samplesFrom a y) j 0 ≡ (getD (a ∷ samplesFrom a y) j 0 + getD y j 0) % 256
+unfolding samplesFrom
+samples-at a [] j h = absurd (omega arith)
+samples-at a (d ∷ y) zero h = refl
+samples-at a (d ∷ y) (suc j) h = samples-at ((a + d) % 256) y j (omega arith)
+
+-- the kept first sample is its step from 0
+pub steps-from-zero : (x : List ℕ) → Bytes x → stepsOf (0 ∷ x) ≡ toSteps x
+unfolding toSteps stepsOf
+steps-from-zero [] h = refl
+steps-from-zero (a ∷ x) h =
+    let e : a ≡ step 0 a = step-is 0 a a (omega arith) (h a (here refl)) (first a (h a (here refl))) in
+    ap (λ (b : ℕ). b ∷ stepsOf (a ∷ x)) (sym e)
+  where
+    first : (a : ℕ) → a < 256 → (a + 0) % 256 ≡ a
+    first a h = omega arith
+
+pub samples-from-zero : (y : List ℕ) → Bytes y → samplesFrom 0 y ≡ fromSteps y
+unfolding fromSteps samplesFrom
+samples-from-zero [] h = refl
+samples-from-zero (a ∷ y) h =
+    let l = h a (here refl) in
+    let e : (0 + a) % 256 ≡ a = omega arith in
+    ap (λ (b : ℕ). b ∷ samplesFrom b y) e
+
 -- a string begins another exactly when it is not longer and each of its entries stands there
 begins-entries : (u v : List ℕ) → begins u v ≡ true → (length u ≤ length v) × ((j : ℕ) → j < length u → getD v j 0 ≡ getD u j 0)
 unfolding begins
@@ -209,7 +234,7 @@ entries-begin (a ∷ u) [] l f = absurd (omega arith)
 entries-begin (a ∷ u) (b ∷ v) l f =
     and-intro (eqb a b) (begins u v) (eq-eqb a b (sym (f 0 (omega arith)))) (entries-begin u v (omega arith) (λ j h. f (suc j) (omega arith)))
 
-steps-size : (x : List ℕ) → length (stepsOf x) ≡ length x - 1
+pub steps-size : (x : List ℕ) → length (stepsOf x) ≡ length x - 1
 unfolding stepsOf
 steps-size [] = refl
 steps-size (a ∷ x) = omega (arith, steps-length a x)
@@ -256,10 +281,13 @@ pub steps-rising : (p x : List ℕ) → Rising (stepFinds p x)
 unfolding stepFinds
 steps-rising p x = below-rising (λ i. begins (stepsOf p) (stepsOf (drop i x))) (length x)
 
--- a pattern that has a step has two samples
+-- a pattern has a step exactly when it has two samples
 pub two-samples : (p : List ℕ) → 0 < length (searched Steps p) → 2 ≤ length p
 unfolding searched
 two-samples p h = omega (arith, steps-size p)
+
+pub steps-some : (p : List ℕ) → 2 ≤ length p → 0 < length (stepsOf p)
+steps-some p h = omega (arith, steps-size p)
 
 -- ---- another centre
 

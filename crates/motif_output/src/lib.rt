@@ -1,5 +1,6 @@
 // What the program `motif` prints, from the bytes that it reads: how many rules the drive has and where the motif begins in it, or a refusal.
 use definitions::Answer;
+use definitions::Content;
 use lines::put_decimal_lines;
 use lines::put_named;
 use lines::put_refusal;
@@ -64,7 +65,7 @@ fn locate_motif<'a>(input: &'a [u8], table: &'a [u32], positions: &mut [u32]) ->
 {
     let end = motif_length(input);
     let mut work = [0u32; 16384];
-    let found = index::locate(table, &input[0..end], &mut work, positions);
+    let found = index::locate(table, Content::Samples, &input[0..end], &mut work, positions);
     found.answer
 }
 

@@ -1,12 +1,13 @@
-// Answers as structs, for interfaces without enums.
+// Answers as structs and forms as enums, for interfaces without enums.
 use definitions::Answer;
+use definitions::Content;
 use definitions::ReadAnswer;
 use definitions::Reply;
 use definitions::Search;
 use definitions::SearchReply;
 ghost use mathlib.Core.Path.{_≡_};
 ghost use Rattle.definitions.specs.Services.{done, refused, outcomeOf, readOutcome};
-ghost use Rattle.definitions.specs.Replies.{Replies};
+ghost use Rattle.definitions.specs.Replies.{Replies, contentOf};
 ghost use Rattle.replies.specs.Searches.{searchReply};
 
 // An answer as a struct.
@@ -41,6 +42,17 @@ pub fn replied_search(s: Search) -> SearchReply
         place: r.place,
         count: r.count,
         tests: s.tests as u64,
+    }
+}
+
+// What a table holds, by its form.
+pub fn content_of(form: u32) -> Content
+    ensures { λ r. ⌜ r ≡ contentOf form ⌝ }
+{
+    if form % 2 == 1 {
+        Content::Steps
+    } else {
+        Content::Samples
     }
 }
 

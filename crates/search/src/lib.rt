@@ -1,7 +1,9 @@
 // The occurrences of a pattern in the text that is loaded, counted by the rules of its table, from the first rule up; and the tests, at most n - m + 2
 // for m samples among n. Equal samples cost most.
 use definitions::Order;
+use equality::equal;
 use joins::areas::is_shorter;
+use joins::areas::length_of;
 use joins::areas::number_of;
 use joins::longest_tail;
 use layout::CUTS;
@@ -13,8 +15,8 @@ use slices::clear;
 use slices::put;
 ghost use mathlib.Core.Path.{_≡_};
 ghost use mathlib.Core.List.{List};
-ghost use Prim.Native.Nat.{ℕ, _≤_, _<_};
-ghost use lib.ListN.{length};
+ghost use Prim.Native.Nat.{ℕ, _+_, _≤_, _<_};
+ghost use lib.ListN.{length, drop};
 ghost use Rattle.definitions.specs.declared.Order.{Order};
 ghost use Rattle.definitions.specs.Table.{tableOf, ruleCount};
 ghost use Rattle.definitions.specs.Occurrences.{occurrences, tests};
@@ -28,10 +30,17 @@ pub struct Totals {
     pub tests: usize,
 }
 
-// Counts the occurrences of a pattern in the text that is loaded, whose table has so many rules, and the tests. Where the root's string is shorter than the pattern, no rule has any.
-pub fn count(order: Order, pattern: &[u8], work: &mut [u32], rules: usize) -> Totals
-    requires { ⌜ Starts order rules (now work) × (0 < length (now pattern)) × (length (now pattern) ≤ 2047) ⌝ }
-    ensures { λ x. ⌜ ((text : List ℕ) (chair : ℕ) → Loaded order text chair (now (work .entry)) → rules ≡ ruleCount (tableOf order text chair) → (x .occurrences ≡ length (occurrences (now (pattern .entry)) text)) × (x .tests ≡ length (tests order (tableOf order text chair) (now (pattern .entry)))) × Searched order (now (pattern .entry)) text chair (now (work .exit))) ⌝ }
+// Counts the occurrences of a pattern in the text that is loaded, whose table has so many rules, and the tests; of the occurrences those from place `from` of the text on.
+// Where the root's string is shorter than the pattern, no rule has any.
+pub fn count(
+    order: Order,
+    pattern: &[u8],
+    from: usize,
+    work: &mut [u32],
+    rules: usize,
+) -> Totals
+    requires { ⌜ Starts order rules (now work) × (0 < length (now pattern)) × (length (now pattern) ≤ 2047) × (from ≤ 1) ⌝ }
+    ensures { λ x. ⌜ ((text : List ℕ) (chair : ℕ) → Loaded order text chair (now (work .entry)) → rules ≡ ruleCount (tableOf order text chair) → (x .occurrences ≡ length (occurrences (now (pattern .entry)) (drop from text))) × (x .tests ≡ length (tests order (tableOf order text chair) (now (pattern .entry)))) × Searched order (now (pattern .entry)) text chair (now (work .exit))) ⌝ }
 {
     let m = pattern.len();
     if is_shorter(work, rules - 1, m) {
@@ -43,10 +52,29 @@ pub fn count(order: Order, pattern: &[u8], work: &mut [u32], rules: usize) -> To
     }
     let n = place_pattern(order, pattern, work);
     let tests = count_rules(work, m, n, rules);
+    let all = number_of(work, rules - 1);
+    let before = passed_over(work, m, from, rules);
     Totals {
-        occurrences: number_of(work, rules - 1),
+        occurrences: all - before,
         tests: tests,
     }
+}
+
+// How many occurrences of the pattern, m samples, begin before place `from` of the text: none, or the one at its start.
+fn passed_over(work: &[u32], m: usize, from: usize, rules: usize) -> usize
+    requires { ⌜ ((n : ℕ) × Counts m n rules rules (now work) × (from ≤ 1)) ⌝ }
+    ensures { λ k. ⌜ ((o : Order) (p text : List ℕ) (chair n : ℕ) → Counting o p text chair m n rules (now (work .entry)) → rules ≡ ruleCount (tableOf o text chair) → k + length (occurrences p (drop from text)) ≡ length (occurrences p text)) ⌝ }
+{
+    if from == 0 {
+        return 0;
+    }
+    if length_of(work, rules - 1) <= m {
+        return 0;
+    }
+    if equal(&work[1..m + 1], &work[PATTERN..PATTERN + m]) {
+        return 1;
+    }
+    0
 }
 
 // Places a pattern's ranks in the work slice, and its listed cuts, NO_CUT behind them. Answers how many cuts there are.

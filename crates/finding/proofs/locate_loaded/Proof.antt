@@ -1,38 +1,55 @@
 -- `locate_loaded` counts, delivers what is found, and answers with the tests.
-use mathlib.Core.Path.{_∙_, ap}
+use mathlib.Core.Path.{_≡_, sym, _∙_, ap, subst}
+use mathlib.Core.List.{List, [], _∷_}
 use Prim.Native.Nat.{ℕ}
-use lib.ListN.{length}
+use native.Mathlib.Omega.{arith}
+use lib.ListN.{length, drop}
 use borrow.Author.Needs.{needs}
 use Rattle.definitions.specs.Occurrences.{occurrences}
-use Rattle.definitions.specs.Services.{done, searchOf, sampleOrder}
+use Rattle.definitions.specs.Steps.{searched, finds}
+use Rattle.definitions.specs.Services.{done, searchOf, sampleOrder, writes, Serves, Answers}
 use Rattle.lists.specs.Serving.{restated}
+use Rattle.lyndon.specs.Steps.{startOf}
 use Rattle.results.proofs.Answers.{tests-refused, tests-done}
-use Rattle.finding.proofs.Counting.{in-order, finds}
+use Rattle.state.specs.State.{Ready}
+use Rattle.finding.proofs.Counting.{in-order, start-low, finds-from, all-found}
 use Rattle.finding.proofs.locate_loaded.Statement.{statement}
 use Rattle.finding.proofs.locate_loaded.Tie as tie
 
 deliver-found-requires : tie.Need-deliver-found-requires
-unfolding finds
+unfolding all-found
 deliver-found-requires c κs =
-    let k = c .before .before .before .before in
+    let z = c .before .before in
+    let k = z .before .before .before in
     let s = k .before .before .before .before .before in
     let a = s .args in
-    let h = s .pre .0 in
-    let (number, _, searched) = k .count-loaded .ensures h (s .pre .1) (s .pre .2) in
-    (finds sampleOrder (a .pattern .now) (h .text) (k .count-loaded .last .1 .1 .0) (h .chair) searched, in-order sampleOrder (a .work .now) h (a .rules) (s .pre .1) (s .pre .2), number)
+    let q = s .pre in
+    let h = q .ready in
+    let found = k .count-loaded .ensures h (q .ordered) (q .size) in
+    (all-found sampleOrder (searched (a .content) (a .pattern .now)) (h .text) (k .count-loaded .last .1 .1 .1 .0) (h .chair) (found .all),
+    in-order sampleOrder (a .work .now) h (a .rules) (q .ordered) (q .size),
+    omega (arith, start-low (a .content), z .start-of .ensures),
+    found .number ∙ ap length (finds-from (a .content) (a .pattern .now) h (q .ordered) (q .filled) (z .start-of .ensures)))
 
 returns : tie.Need-returns
-unfolding finds
-returns c h e q =
+unfolding all-found
+returns c h e size =
     let d = c .before .before .before in
-    let k = d .before .before .before .before .before in
-    let a = k .before .before .before .before .before .args in
-    let (number, made, searched) = k .count-loaded .ensures h e q in
+    let z = d .before .before .before in
+    let k = z .before .before .before in
+    let s = k .before .before .before .before .before in
+    let a = s .args in
+    let p = a .pattern .now in
+    let found = k .count-loaded .ensures h e size in
     let r = d .deliver-found .result in
-    let n = length (occurrences (a .pattern .now) (h .text)) in
-    restated (λ i j z. c .with-tests .ensures ∙ tests-refused r (k .count-loaded .result .tests) i j z)
-    (λ z. c .with-tests .ensures ∙ tests-done r (k .count-loaded .result .tests) n z ∙ ap (λ (m : ℕ). searchOf (done n m)) made)
-    (d .deliver-found .ensures (finds sampleOrder (a .pattern .now) (h .text) (k .count-loaded .last .1 .1 .0) (h .chair) searched) (in-order sampleOrder (a .work .now) h (a .rules) e q) number)
+    let n = length (finds (a .content) p (h .text)) in
+    let same = finds-from (a .content) p h e (s .pre .filled) (z .start-of .ensures) in
+    restated (λ i j y. c .with-tests .ensures ∙ tests-refused r (k .count-loaded .result .tests) i j y)
+    (λ y. c .with-tests .ensures ∙ tests-done r (k .count-loaded .result .tests) n y ∙ ap (λ (m : ℕ). searchOf (done n m)) (found .made))
+    (subst (λ (l : List ℕ). Serves (writes [] l 0 (a .result .now)) (Answers r) (d .deliver-found .last .1 .1 .1 .1 .0 ∷ [])) (sym same)
+    (d .deliver-found .ensures (all-found sampleOrder (searched (a .content) p) (h .text) (k .count-loaded .last .1 .1 .1 .0) (h .chair) (found .all))
+    (in-order sampleOrder (a .work .now) h (a .rules) e size) (found .number ∙ ap length same)))
 
 pub locate-loaded-spec : {M : Type 1} → statement M
-locate-loaded-spec = tie.close (tie.spec (λ c κs. search needs) deliver-found-requires (λ c κs. search needs) (λ c. search needs) (λ c. search needs) returns)
+locate-loaded-spec =
+    tie.close (tie.spec (λ c κs. search needs) (λ c κs. search needs) deliver-found-requires (λ c κs. search needs) (λ c. search needs) (λ c. search needs) returns)

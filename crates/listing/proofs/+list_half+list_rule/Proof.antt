@@ -12,7 +12,7 @@ use Rattle.decoding.proofs.rule_in.Reads as rule-in-reads
 use Rattle.joins.proofs.areas.cut_of.Reads as cut-of-reads
 use Rattle.joins.proofs.areas.length_of.Reads as length-of-reads
 use Rattle.joins.proofs.areas.number_of.Reads as number-of-reads
-use Rattle.listing.proofs.Listing.{PairLists, Remains, lists-known, list-none, list-symbol, list-pair, list-left, all-remains, right-remains, none-remains, cut-fits}
+use Rattle.listing.proofs.Listing.{PairLists, Remains, lists-known, list-none, symbol-fits, list-symbol, list-pair, list-left, all-remains, right-remains, none-remains, cut-fits}
 use Rattle.listing.proofs.list_cut.Reads as list-cut-reads
 use Rattle.listing.proofs.list_one.Reads as list-one-reads
 use Rattle.listing.proofs.list_half.Reads as list-half
@@ -50,9 +50,11 @@ half-calls t =
 
 half-list-one-requires : (t : ℕ) → list-half-lts.Need-list-one-requires (half-calls t) (list-half-at t) list-half.Post
 half-list-one-requires t c κs =
-    let i = c .before .before .before .before in
+    let (q, e) = c .before .enum-told2 .given in
+    let r = c .before .before .before in
+    let i = r .before in
     let l = i .before .before .before .before .pre .1 in
-    (omega (arith, l .inside), omega (arith, l .room, i .if1 .left, i .before .number-of .ensures))
+    (omega (arith, l .inside), symbol-fits l (q .0) (q .1 .0) (λ z. i .if1 .left (i .before .number-of .ensures ∙ z)) (sym (r .rule-in .ensures) ∙ e))
 
 half-returns-2 : (t : ℕ) → list-half-lts.Need-returns-2 (half-calls t) (list-half-at t) list-half.Post
 half-returns-2 t c =
@@ -60,8 +62,8 @@ half-returns-2 t c =
     let (q, e) = o .before .before .enum-told2 .given in
     let r = o .before .before .before .before in
     let s = r .before .before .before .before .before in
-    list-symbol (s .pre .1) (q .0) (q .1 .0) (o .list-one .result) (s .args .result .now) (o .list-one .last .0) (λ z. r .before .if1 .left (r .before .before .number-of .ensures ∙ z))
-    (sym (r .rule-in .ensures) ∙ e) (o .list-one .ensures .0) (o .list-one .ensures .1)
+    list-symbol (s .pre .1) (q .0) (q .1 .0) (λ z. r .before .if1 .left (r .before .before .number-of .ensures ∙ z)) (sym (r .rule-in .ensures) ∙ e)
+    (o .list-one .result) (s .args .result .now) (o .list-one .last .0) (o .list-one .ensures .0) (o .list-one .ensures .1)
 
 half-list-rule-requires : (t : ℕ) → list-half-lts.Need-list-rule-requires (half-calls t) (list-half-at t) list-half.Post
 half-list-rule-requires t c κs =
@@ -75,16 +77,18 @@ rule-calls t =
     (number-of-reads.Asked, number-of-reads.Learnt, rule-in-reads.Asked, rule-in-reads.Learnt, list-one-reads.Asked, list-one-reads.Learnt, length-of-reads.Asked, length-of-reads.Learnt, cut-of-reads.Asked, cut-of-reads.Learnt, list-half-below t, list-half.Post, list-cut-reads.Asked, list-cut-reads.Learnt)
 
 abbrev Inv-loop : list-rule-lts.InvT-loop
-Inv-loop work r at result₀ written n₀ rest₀ place₀ result n rest place = Remains work r at written result₀ rest place n result
+Inv-loop work r at first result₀ written n₀ rest₀ place₀ result n rest place = Remains work first r at written result₀ rest place n result
 
 abbrev μ-loop : list-rule-lts.MeasureT-loop
-μ-loop work r at result₀ written n₀ rest₀ place₀ result n rest place = rest
+μ-loop work r at first result₀ written n₀ rest₀ place₀ result n rest place = rest
 
 rule-list-one-requires : (t : ℕ) → list-rule-lts.Need-list-one-requires (rule-calls t) (list-rule-at t) list-rule.Post Inv-loop μ-loop
 rule-list-one-requires t c κs =
-    let i = c .before .before .before .before in
+    let (q, e) = c .before .enum-told .given in
+    let r = c .before .before .before in
+    let i = r .before in
     let l = i .before .before .loop .inv .listable in
-    (omega (arith, l .inside), omega (arith, l .room, i .if1 .taken, i .before .number-of .ensures))
+    (omega (arith, l .inside), symbol-fits l (q .0) (q .1 .0) (λ z. omega (arith, i .if1 .taken, i .before .number-of .ensures)) (sym (r .rule-in .ensures) ∙ e))
 
 rule-returns : (t : ℕ) → list-rule-lts.Need-returns (rule-calls t) (list-rule-at t) list-rule.Post Inv-loop μ-loop
 rule-returns t c =
@@ -93,8 +97,8 @@ rule-returns t c =
     let r = o .before .before .before .before in
     let s = r .before .before .before in
     none-remains (s .loop .inv) (o .list-one .result) (o .list-one .last .0)
-    (list-symbol (s .loop .inv .listable) (q .0) (q .1 .0) (o .list-one .result) (s .loop .result) (o .list-one .last .0) (λ z. omega (arith, r .before .if1 .taken, r .before .before .number-of .ensures))
-    (sym (r .rule-in .ensures) ∙ e) (o .list-one .ensures .0) (o .list-one .ensures .1))
+    (list-symbol (s .loop .inv .listable) (q .0) (q .1 .0) (λ z. omega (arith, r .before .if1 .taken, r .before .before .number-of .ensures)) (sym (r .rule-in .ensures) ∙ e)
+    (o .list-one .result) (s .loop .result) (o .list-one .last .0) (o .list-one .ensures .0) (o .list-one .ensures .1))
 
 -- the rule is read as a pair
 is-pair : (t : ℕ) (c : list-rule-lts.After-rule (rule-calls t) (list-rule-at t) list-rule.Post Inv-loop μ-loop) → let s = c .before .before .before .before .before in
@@ -128,10 +132,8 @@ rule-list-cut-requires t c κs =
     let w = k .before in
     let r = w .before .before in
     let s = r .before .before .before .before .before in
-    let (low, inside, room) =
     cut-fits (s .loop .inv) (r .rule .given .0 .0) (r .rule .given .0 .1 .0) (is-pair t r) (s .loop .place + w .length-of .result) (k .cut-of .result)
-    (omega (arith, w .length-of .ensures)) (k .cut-of .ensures) (f .list-half .result) (f .list-half .last .1 .1 .1 .0) (f .list-half .kept .1 .1 .1 .0) (f .list-half .ensures) in
-    (low, inside, omega (arith, room, f .list-half .ensures .number))
+    (omega (arith, w .length-of .ensures)) (k .cut-of .ensures) (f .list-half .result) (f .list-half .last .1 .1 .1 .1 .0) (f .list-half .kept .1 .1 .1 .1 .0) (f .list-half .ensures)
 
 rule-loop-again : (t : ℕ) → list-rule-lts.Need-loop-again (rule-calls t) (list-rule-at t) list-rule.Post Inv-loop μ-loop
 rule-loop-again t c =
@@ -142,8 +144,8 @@ rule-loop-again t c =
     let r = w .before .before in
     let s = r .before .before .before .before .before in
     right-remains (s .loop .inv) (r .rule .given .0 .0) (r .rule .given .0 .1 .0) (is-pair t r) (s .loop .place + w .length-of .result) (k .cut-of .result)
-    (omega (arith, w .length-of .ensures)) (k .cut-of .ensures) (f .list-half .result) (g .list-cut .result) (f .list-half .last .1 .1 .1 .0) (g .list-cut .last .0)
-    (f .list-half .kept .1 .1 .1 .0) (g .list-cut .kept .0) (f .list-half .ensures) (g .list-cut .ensures .0) (g .list-cut .ensures .1)
+    (omega (arith, w .length-of .ensures)) (k .cut-of .ensures) (f .list-half .result) (g .list-cut .result) (f .list-half .last .1 .1 .1 .1 .0) (g .list-cut .last .0)
+    (f .list-half .kept .1 .1 .1 .1 .0) (g .list-cut .kept .0) (f .list-half .ensures) (g .list-cut .ensures .0) (g .list-cut .ensures .1)
 
 rule-returns-2 : (t : ℕ) → list-rule-lts.Need-returns-2 (rule-calls t) (list-rule-at t) list-rule.Post Inv-loop μ-loop
 rule-returns-2 t c =

@@ -1,14 +1,21 @@
--- `count` finds nothing where the root's string is shorter than the pattern; else it places the pattern, counts every rule, and reads the root's number.
-use mathlib.Core.Path.{sym, _∙_}
-use Prim.Native.Nat.{_+_, _-_, _≤_, _<_}
+-- `count` finds nothing where the root's string is shorter than the pattern; else it places the pattern, counts every rule, and reads the root's number, less what is passed over.
+use mathlib.Core.Path.{_≡_, sym, _∙_, ap}
+use mathlib.Core.List.{List}
+use Prim.Native.Nat.{ℕ, _+_, _-_, _≤_, _<_}
 use native.Mathlib.Omega.{arith}
-use lib.ListN.{length}
+use lib.ListN.{length, drop, length-drop}
 use borrow.Author.Needs.{needs}
 use borrow.Author.Tests.{ltb-true}
+use Rattle.definitions.specs.Table.{tableOf, ruleCount}
+use Rattle.definitions.specs.Occurrences.{occurrences, tests}
 use Rattle.lyndon.specs.Stored.{rule-range}
+use Rattle.lyndon.specs.Occurrences.{longer-nowhere}
 use Rattle.layout.specs.Layout.{FOUND, lengthIn}
-use Rattle.rule_finds.proofs.Short.{short-text, short-search, short-all}
+use Rattle.state.specs.State.{Loaded}
+use Rattle.rule_finds.specs.Searching.{Counting}
+use Rattle.rule_finds.proofs.Short.{short-search, short-all}
 use Rattle.search.proofs.Starting.{pattern-here, counted-text, counted-all}
+use Rattle.search.proofs.Passing.{root-size}
 use Rattle.search.proofs.count.Statement.{statement}
 use Rattle.search.proofs.count.Tie as tie
 
@@ -35,7 +42,7 @@ returns c text chair h e =
     let p = a .pattern .now in
     let q = pattern-here p (s .pre .1) (s .pre .2) (λ j b. omega (arith, k .shared-slice-known .given j)) in
     let shorter = ltb-true (lengthIn w (a .rules - 1)) (length p) (sym (i .is-shorter .ensures) ∙ l .before .before .if1 .taken) in (
-      short-text (a .order) text chair w h p (a .rules) e shorter,
+      sym (ap length (longer-nowhere p (drop (a .from) text) (omega (arith, length-drop (a .from) text, root-size (a .order) text chair w h (a .rules) e)))),
       short-search (a .order) text chair w h p (a .rules) e shorter,
       short-all (a .order) text chair w h p (l .clear .last .0) (FOUND + a .rules - FOUND) (a .rules) q e shorter (omega arith) (l .clear .ensures),
     )
@@ -59,7 +66,7 @@ count-rules-requires c κs =
       size = h .size;
     }
 
--- where the last call starts from
+-- where the last calls start from
 abbrev number-start : tie.After-count-rules → tie.Start
 number-start c = c .before .before .before .before .before .before .before .before .before .before .before
 
@@ -68,16 +75,60 @@ number-of-requires c κs =
     let s = number-start (c .before .before .before) in
     record { low = omega (arith, range s); long = omega (arith, s .pre .0 .loaded .kept .long) }
 
-returns-2 : tie.Need-returns-2
-returns-2 c text chair h e =
-    let r = c .before .before .before .before in
-    let p = r .before .before .before .before in
+-- every rule is counted, whatever text is loaded, and the tests are
+all-counted : (r : tie.After-count-rules) → let a = number-start r .args in
+    (text : List ℕ) (chair : ℕ) → Loaded (a .order) text chair (a .work .now) → a .rules ≡ ruleCount (tableOf (a .order) text chair)
+    → Counting (a .order) (a .pattern .now) text chair (length (a .pattern .now)) (r .before .before .before .before .place-pattern .result) (a .rules) (r .count-rules .last .0)
+    × (r .count-rules .result ≡ length (tests (a .order) (tableOf (a .order) text chair) (a .pattern .now)))
+all-counted r text chair h e =
+    let a = number-start r .args in
+    r .count-rules .ensures (a .order) (a .pattern .now) text chair (r .before .before .before .before .place-pattern .ensures text chair h) e
+
+passed-over-requires : tie.Need-passed-over-requires
+passed-over-requires c κs =
+    let r = c .before .before .before .before .before in
+    let s = number-start r in
+    let h = s .pre .0 in
+    (r .before .before .before .before .place-pattern .result,
+    record {
+      order = s .args .order;
+      samples = s .args .pattern .now;
+      text = h .text;
+      chair = h .chair;
+      counting = all-counted r (h .text) (h .chair) (h .loaded) (h .size) .0;
+      size = h .size;
+    },
+    s .pre .3)
+
+-- how many begin before, and how many are counted
+both : (c : tie.After-passed-over) → let r = c .before .before .before .before .before .before in
+    let a = number-start r .args in
+    (text : List ℕ) (chair : ℕ) → Loaded (a .order) text chair (a .work .now) → a .rules ≡ ruleCount (tableOf (a .order) text chair)
+    → c .passed-over .result + length (occurrences (a .pattern .now) (drop (a .from) text)) ≡ c .before .before .number-of .result
+both c text chair h e =
+    let r = c .before .before .before .before .before .before in
     let s = number-start r in
     let a = s .args in
+    let n = r .before .before .before .before .place-pattern .result in
     let w = r .count-rules .last .0 in
-    let (counted, tests) = r .count-rules .ensures (a .order) (a .pattern .now) text chair (p .place-pattern .ensures text chair h) e in
-    let all = counted-all (a .order) (a .pattern .now) text chair _ (p .place-pattern .result) (a .rules) w e counted in
-    (c .number-of .ensures ∙ counted-text (a .order) (a .pattern .now) text chair (a .rules) w (range s .0) e all, tests, all)
+    let (counted, _) = all-counted r text chair h e in
+    let all = counted-all (a .order) (a .pattern .now) text chair _ n (a .rules) w e counted in
+    c .passed-over .ensures (a .order) (a .pattern .now) text chair n counted e
+    ∙ sym (c .before .before .number-of .ensures ∙ counted-text (a .order) (a .pattern .now) text chair (a .rules) w (range s .0) e all)
+
+sub-all : tie.Need-sub-t14
+sub-all c =
+    let s = number-start (c .before .before .before .before .before .before) in
+    let h = s .pre .0 in
+    omega (arith, both c (h .text) (h .chair) (h .loaded) (h .size))
+
+returns-2 : tie.Need-returns-2
+returns-2 c text chair h e =
+    let r = c .before .before .before .before .before .before in
+    let a = number-start r .args in
+    let (counted, tests) = all-counted r text chair h e in
+    let all = counted-all (a .order) (a .pattern .now) text chair _ (r .before .before .before .before .place-pattern .result) (a .rules) (r .count-rules .last .0) e counted in
+    (omega (arith, both c text chair h e), tests, all)
 
 pub count-spec : {M : Type 1} → statement M
 count-spec =
@@ -85,4 +136,4 @@ count-spec =
     (tie.spec (λ c. omega (arith, range (c .before .before .before))) is-shorter-requires
     (λ c. omega (arith, range (c .before .before .before .before .before))) (λ c. omega arith) (λ c. omega arith)
     (λ c. let s = c .before .before .before .before .before in omega (arith, range s, s .pre .0 .loaded .kept .long)) (λ c κs. tt) (λ c. search needs) returns
-    place-pattern-requires count-rules-requires (λ c. omega (arith, range (number-start (c .before .before .before)))) number-of-requires (λ c. search needs) returns-2)
+    place-pattern-requires count-rules-requires (λ c. omega (arith, range (number-start (c .before .before .before)))) number-of-requires passed-over-requires sub-all (λ c. search needs) returns-2)

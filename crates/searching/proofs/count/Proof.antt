@@ -7,12 +7,13 @@ use lib.ListN.{length}
 use borrow.Author.Needs.{needs}
 use Rattle.definitions.specs.declared.Answer.the-variants.{Done}
 use Rattle.definitions.specs.Table.{textOf}
-use Rattle.definitions.specs.Occurrences.{occurrences, tests}
-use Rattle.definitions.specs.Services.{done, outcomeOf, searchOf, sampleOrder, patternChecks, tableChecks, countService}
+use Rattle.definitions.specs.Occurrences.{tests}
+use Rattle.definitions.specs.Steps.{searched, finds}
+use Rattle.definitions.specs.Services.{done, outcomeOf, searchOf, sampleOrder, searchChecks, tableChecks, countService}
 use Rattle.lists.specs.Decisions.{none, done-all}
 use Rattle.lists.specs.Serving.{refused-front, served, passed, worked}
 use Rattle.checks.proofs.Fronts.{work-cleared}
-use Rattle.checks.proofs.Patterns.{pattern-keeps, passed-pattern}
+use Rattle.checks.proofs.Patterns.{search-keeps, passed-search}
 use Rattle.results.proofs.Answers.{tests-done, search-refuses}
 use Rattle.opening.proofs.Services.{ready, opened-table, opened-cleared, opening-refused, opening-done}
 use Rattle.searching.proofs.count.Statement.{statement}
@@ -22,16 +23,18 @@ returns : tie.Need-returns
 unfolding countService
 returns c =
     let f = c .before .before .before in
-    let p = f .before .before .before .before .args .pattern .now in
-    refused-front (patternChecks p) _ (length p) (pattern-keeps p) (f .pattern-fits .ensures) (c .before .enum-told2 .given .1) (search-refuses (f .pattern-fits .result) (c .with-tests .result) (c .with-tests .ensures)) (λ d e. rw e)
+    let a = f .before .before .before .before .args in
+    let p = a .pattern .now in
+    refused-front (searchChecks (a .content) p) _ (length p) (search-keeps (a .content) p) (f .search-fits .ensures) (c .before .enum-told2 .given .1) (search-refuses (f .search-fits .result) (c .with-tests .result) (c .with-tests .ensures)) (λ d e. rw e)
 
 returns-2 : tie.Need-returns-2
-unfolding countService patternChecks tableChecks
+unfolding countService tableChecks
 returns-2 c =
     let m = c .before .before .before .before .before in
     let f = m .before .before .before .before in
-    let p = f .before .before .before .before .args .pattern .now in
-    passed (done-all (patternChecks p) (length p) (f .pattern-fits .ensures) (m .before .before .enum-told .given .1) .0)
+    let a = f .before .before .before .before .args in
+    let p = a .pattern .now in
+    passed (done-all (searchChecks (a .content) p) (length p) (f .search-fits .ensures) (m .before .before .enum-told .given .1) .0)
     (opening-refused _ (m .admit .ensures) (c .before .enum-told3 .given .1) (search-refuses (m .admit .result) (c .with-tests2 .result) (c .with-tests2 .ensures)) (λ d. refl))
 
 part-count-loaded-end : tie.Need-part-count-loaded-end
@@ -45,10 +48,11 @@ count-loaded-requires c κs =
     let k = c .before .before in
     let m = k .before .before .before .before in
     let f = m .before .before .before .before in
-    let p = f .before .before .before .before .args .pattern .now in
+    let a = f .before .before .before .before .args in
+    let p = a .pattern .now in
     let (_, x, e) = opening-done (m .admit .ensures) (k .a .given .1) in
-    let (some, short) = passed-pattern p (done-all (patternChecks p) (length p) (f .pattern-fits .ensures) (m .before .before .enum-told .given .1) .0) in
-    (ready x, refl, e, some, short)
+    let (some, short) = passed-search (a .content) p (done-all (searchChecks (a .content) p) (length p) (f .search-fits .ensures) (m .before .before .enum-told .given .1) .0) in
+    record { ready = ready x; ordered = refl; size = e; filled = some; short = short }
 
 clear-front-requires : tie.Need-clear-front-requires
 clear-front-requires c κs =
@@ -56,7 +60,7 @@ clear-front-requires c κs =
     omega (arith, opening-done (k .before .before .before .before .admit .ensures) (k .a .given .1) .1 .long)
 
 returns-3 : tie.Need-returns-3
-unfolding countService outcomeOf patternChecks tableChecks ready
+unfolding countService outcomeOf tableChecks ready
 returns-3 c =
     let z = c .before .before .before in
     let b = z .before .before .before .before in
@@ -67,15 +71,15 @@ returns-3 c =
     let p = a .pattern .now in
     let (o, x, e) = opening-done (m .admit .ensures) (k .a .given .1) in
     let n = b .count-loaded .result in
-    let (number, made, _) = b .count-loaded .ensures (ready x) refl e in
-    let finds = length (occurrences p (textOf sampleOrder (a .table .now))) in
-    passed (done-all (patternChecks p) (length p) (f .pattern-fits .ensures) (m .before .before .enum-told .given .1) .0)
+    let found = b .count-loaded .ensures (ready x) refl e in
+    let number = length (finds (a .content) p (textOf sampleOrder (a .table .now))) in
+    passed (done-all (searchChecks (a .content) p) (length p) (f .search-fits .ensures) (m .before .before .enum-told .given .1) .0)
     (passed o (worked (a .work .now) (z .clear-front .last .0) refl
-    (work-cleared (m .admit .last .1 .1 .0) (b .count-loaded .last .1 .1 .0) (z .clear-front .last .0) (x .long) (b .count-loaded .kept .1 .1 .0) (z .clear-front .ensures) ∙ opened-cleared x)
+    (work-cleared (m .admit .last .1 .1 .0) (b .count-loaded .last .1 .1 .1 .0) (z .clear-front .last .0) (x .long) (b .count-loaded .kept .1 .1 .1 .0) (z .clear-front .ensures) ∙ opened-cleared x)
     (served none
     (c .with-tests3 .ensures
-    ∙ tests-done (Done (n .occurrences)) (n .tests) finds (ap (λ (i : ℕ). done i 0) number)
-    ∙ ap (λ (i : ℕ). searchOf (done finds i)) (made ∙ ap (λ (t : List ℕ). length (tests sampleOrder t p)) (opened-table x))) refl)))
+    ∙ tests-done (Done (n .occurrences)) (n .tests) number (ap (λ (i : ℕ). done i 0) (found .number))
+    ∙ ap (λ (i : ℕ). searchOf (done number i)) (found .made ∙ ap (λ (t : List ℕ). length (tests sampleOrder t (searched (a .content) p))) (opened-table x))) refl)))
 
 pub count-spec : {M : Type 1} → statement M
 count-spec =

@@ -6,32 +6,37 @@ use native.Mathlib.Omega.{arith}
 use lib.ListN.{length}
 use borrow.Author.Needs.{needs}
 use Rattle.definitions.specs.Table.{textOf}
-use Rattle.definitions.specs.Occurrences.{occurrences, tests}
-use Rattle.definitions.specs.Services.{sampleOrder, patternChecks, tableChecks, writes, Serves, Searches, locateService}
+use Rattle.definitions.specs.Occurrences.{tests}
+use Rattle.definitions.specs.Steps.{searched, finds}
+use Rattle.definitions.specs.Services.{sampleOrder, searchChecks, tableChecks, writes, Serves, Searches, locateService}
 use Rattle.lists.specs.Decisions.{done-all}
-use Rattle.lists.specs.Serving.{refused-front, passed, worked}
+use Rattle.lists.specs.Serving.{grouped, refused-front, passed, worked}
 use Rattle.checks.proofs.Fronts.{work-cleared}
-use Rattle.checks.proofs.Patterns.{pattern-keeps, passed-pattern}
+use Rattle.checks.proofs.Patterns.{search-keeps, passed-search}
 use Rattle.results.proofs.Answers.{search-refuses}
 use Rattle.opening.proofs.Services.{ready, opened-table, opened-cleared, opening-refused, opening-done}
 use Rattle.searching.proofs.locate.Statement.{statement}
 use Rattle.searching.proofs.locate.Tie as tie
 
 returns : tie.Need-returns
-unfolding locateService patternChecks tableChecks
+unfolding locateService tableChecks
 returns c =
     let f = c .before .before .before in
-    let p = f .before .before .before .before .before .args .pattern .now in
-    refused-front (patternChecks p) _ (length p) (pattern-keeps p) (f .pattern-fits .ensures) (c .before .enum-told2 .given .1) (search-refuses (f .pattern-fits .result) (c .with-tests .result) (c .with-tests .ensures)) (λ d e. rw e)
+    let a = f .before .before .before .before .before .args in
+    let p = a .pattern .now in
+    grouped (searchChecks (a .content) p) _ _
+    (refused-front (searchChecks (a .content) p) _ (length p) (search-keeps (a .content) p) (f .search-fits .ensures) (c .before .enum-told2 .given .1) (search-refuses (f .search-fits .result) (c .with-tests .result) (c .with-tests .ensures)) (λ d e. rw e))
 
 returns-2 : tie.Need-returns-2
-unfolding locateService patternChecks tableChecks
+unfolding locateService tableChecks
 returns-2 c =
     let m = c .before .before .before .before .before in
     let f = m .before .before .before .before in
-    let p = f .before .before .before .before .before .args .pattern .now in
-    passed (done-all (patternChecks p) (length p) (f .pattern-fits .ensures) (m .before .before .enum-told .given .1) .0)
-    (opening-refused _ (m .admit .ensures) (c .before .enum-told3 .given .1) (search-refuses (m .admit .result) (c .with-tests2 .result) (c .with-tests2 .ensures)) (λ d. refl))
+    let a = f .before .before .before .before .before .args in
+    let p = a .pattern .now in
+    grouped (searchChecks (a .content) p) _ _
+    (passed (done-all (searchChecks (a .content) p) (length p) (f .search-fits .ensures) (m .before .before .enum-told .given .1) .0)
+    (opening-refused _ (m .admit .ensures) (c .before .enum-told3 .given .1) (search-refuses (m .admit .result) (c .with-tests2 .result) (c .with-tests2 .ensures)) (λ d. refl)))
 
 part-locate-loaded-end : tie.Need-part-locate-loaded-end
 part-locate-loaded-end c =
@@ -44,10 +49,11 @@ locate-loaded-requires c κs =
     let k = c .before .before .before in
     let m = k .before .before .before .before in
     let f = m .before .before .before .before in
-    let p = f .before .before .before .before .before .args .pattern .now in
+    let a = f .before .before .before .before .before .args in
+    let p = a .pattern .now in
     let (_, x, e) = opening-done (m .admit .ensures) (k .a .given .1) in
-    let (some, short) = passed-pattern p (done-all (patternChecks p) (length p) (f .pattern-fits .ensures) (m .before .before .enum-told .given .1) .0) in
-    (ready x, refl, e, some, short)
+    let (some, short) = passed-search (a .content) p (done-all (searchChecks (a .content) p) (length p) (f .search-fits .ensures) (m .before .before .enum-told .given .1) .0) in
+    record { ready = ready x; ordered = refl; size = e; filled = some; short = short }
 
 clear-front-requires : tie.Need-clear-front-requires
 clear-front-requires c κs =
@@ -55,7 +61,7 @@ clear-front-requires c κs =
     omega (arith, opening-done (k .before .before .before .before .admit .ensures) (k .a .given .1) .1 .long)
 
 returns-3 : tie.Need-returns-3
-unfolding locateService patternChecks tableChecks ready
+unfolding locateService tableChecks ready
 returns-3 c =
     let z = c .before .before in
     let b = z .before .before .before .before .before .before in
@@ -65,11 +71,12 @@ returns-3 c =
     let a = f .before .before .before .before .before .args in
     let p = a .pattern .now in
     let (o, x, e) = opening-done (m .admit .ensures) (k .a .given .1) in
-    passed (done-all (patternChecks p) (length p) (f .pattern-fits .ensures) (m .before .before .enum-told .given .1) .0)
+    grouped (searchChecks (a .content) p) _ _
+    (passed (done-all (searchChecks (a .content) p) (length p) (f .search-fits .ensures) (m .before .before .enum-told .given .1) .0)
     (passed o (worked (a .work .now) (z .clear-front .last .0) (refl, refl)
-    (work-cleared (m .admit .last .1 .1 .0) (b .locate-loaded .last .1 .1 .0) (z .clear-front .last .0) (x .long) (b .locate-loaded .kept .1 .1 .0) (z .clear-front .ensures) ∙ opened-cleared x)
-    (subst (λ (t : List ℕ). Serves (writes [] (occurrences p (textOf sampleOrder (a .table .now))) (length (tests sampleOrder t p)) (a .result .now)) (Searches (b .locate-loaded .result)) (b .locate-loaded .last .1 .1 .1 .0 ∷ []))
-    (opened-table x) (b .locate-loaded .ensures (ready x) refl e))))
+    (work-cleared (m .admit .last .1 .1 .0) (b .locate-loaded .last .1 .1 .1 .0) (z .clear-front .last .0) (x .long) (b .locate-loaded .kept .1 .1 .1 .0) (z .clear-front .ensures) ∙ opened-cleared x)
+    (subst (λ (t : List ℕ). Serves (writes [] (finds (a .content) p (textOf sampleOrder (a .table .now))) (length (tests sampleOrder t (searched (a .content) p))) (a .result .now)) (Searches (b .locate-loaded .result)) (b .locate-loaded .last .1 .1 .1 .1 .0 ∷ []))
+    (opened-table x) (b .locate-loaded .ensures (ready x) refl e)))))
 
 pub locate-spec : {M : Type 1} → statement M
 locate-spec =

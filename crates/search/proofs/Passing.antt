@@ -1,0 +1,67 @@
+-- The occurrences before the second place of the text: one where the text begins with the pattern (`first-passed`), none where it does not (`not-passed`) or is not longer (`none-passed`).
+use mathlib.Core.Path.{_≡_, refl, sym, _∙_, ap, ap₂}
+use mathlib.Core.Bool.{Bool, true, false, cond}
+use mathlib.Core.List.{List, [], _∷_, _++_, map}
+use Prim.Native.Nat.{ℕ, suc, _+_, _-_, _≤_, _<_}
+use native.Mathlib.Omega.{arith}
+use lib.ListN.{length, take, drop, length-append, length-drop, length-map}
+use Rattle.definitions.specs.declared.Order.{Order}
+use Rattle.definitions.specs.Words.{same, begins}
+use Rattle.definitions.specs.Table.{rankOf, marked, tableOf, spelled, ruleString, ruleCount}
+use Rattle.definitions.specs.Occurrences.{occurrences}
+use Rattle.lists.specs.Parts.{part, part-part}
+use Rattle.lists.specs.Strings.{front-begins}
+use Rattle.lyndon.specs.Ranks.{marked-length}
+use Rattle.lyndon.specs.Stored.{rule-range, table-spelled}
+use Rattle.lyndon.specs.Occurrences.{longer-nowhere, occurrences-first, begins-ranks}
+use Rattle.layout.specs.Layout.{PATTERN, lengthIn}
+use Rattle.state.specs.State.{Loaded}
+use Rattle.rule_finds.specs.Searching.{Counting}
+
+-- the root's string is the marked text
+pub root-size : (o : Order) (text : List ℕ) (chair : ℕ) (w : List ℕ) → Loaded o text chair w → (rules : ℕ) → rules ≡ ruleCount (tableOf o text chair)
+    → lengthIn w (rules - 1) ≡ suc (length text)
+unfolding spelled
+root-size o text chair w h rules e =
+    h .sizes (rules - 1) (omega (arith, rule-range o text chair (h .kept .stored)))
+    ∙ ap length (ap (λ (r : ℕ). ruleString o (tableOf o text chair) (r - 1)) e ∙ table-spelled o text chair (h .kept .stored))
+    ∙ marked-length o text
+
+module _ (o : Order) (p text : List ℕ) (chair m n rules : ℕ) (w : List ℕ) (h : Counting o p text chair m n rules w) (e : rules ≡ ruleCount (tableOf o text chair)) where
+  filled : 0 < length p
+  filled = h .pattern .filled
+
+  size : lengthIn w (rules - 1) ≡ suc (length text)
+  size = root-size o text chair w (h .loaded) rules e
+
+  pub none-passed : lengthIn w (rules - 1) ≤ m → length (occurrences p (drop 1 text)) ≡ length (occurrences p text)
+  none-passed l =
+      ap length (longer-nowhere p (drop 1 text) (omega (arith, length-drop 1 text, size, h .size)) ∙ sym (longer-nowhere p text (omega (arith, size, h .size))))
+
+  -- the pattern stands where it is placed, the text behind the mark
+  starts : m < lengthIn w (rules - 1) → same (part 1 m w) (part PATTERN m w) ≡ begins p text
+  unfolding marked part
+  starts l =
+      let short : m ≤ length text = omega (arith, size) in
+      let ranks : part 1 m w ≡ take m (map (rankOf o) text) =
+      sym (part-part 0 (suc (length text)) 1 m w (omega arith)) ∙ ap (part 1 m) (h .loaded .kept .ranks) in
+      let count : m ≡ length (map (rankOf o) p) = h .size ∙ sym (length-map p (rankOf o)) in
+      ap₂ {C = Bool} same (ranks ∙ ap (λ (k : ℕ). take k (map (rankOf o) text)) count) (h .ranks)
+      ∙ front-begins (map (rankOf o) p) (map (rankOf o) text) (omega (arith, length-map text (rankOf o)))
+      ∙ begins-ranks o p text (h .pattern .bytes) (h .loaded .kept .stored .bytes)
+
+  -- all, by whether there is one at the start
+  abbrev start : Bool → List ℕ
+  start b = cond b (0 ∷ []) []
+
+  counted-first : (b : Bool) → begins p text ≡ b → length (start b) + length (occurrences p (drop 1 text)) ≡ length (occurrences p text)
+  counted-first b f =
+      let l = occurrences p (drop 1 text) in
+      let all : occurrences p text ≡ start b ++ map suc l = occurrences-first p text filled ∙ ap (λ (x : Bool). start x ++ map suc l) f in
+      omega (arith, ap length all, length-append (start b) (map suc l), length-map l suc)
+
+  pub first-passed : m < lengthIn w (rules - 1) → same (part 1 m w) (part PATTERN m w) ≡ true → 1 + length (occurrences p (drop 1 text)) ≡ length (occurrences p text)
+  first-passed l f = counted-first true (sym (starts l) ∙ f)
+
+  pub not-passed : m < lengthIn w (rules - 1) → same (part 1 m w) (part PATTERN m w) ≡ false → length (occurrences p (drop 1 text)) ≡ length (occurrences p text)
+  not-passed l f = omega (arith, counted-first false (sym (starts l) ∙ f))
