@@ -1,4 +1,4 @@
--- `sirbolta_locate` is `locate`.
+-- `sirbolta_locate` is `locate`, of what the form says.
 use borrow.Author.Needs.{needs}
 use Rattle.lists.specs.Serving.{said}
 use Rattle.replies.proofs.Outcomes.{search-replies}
@@ -6,7 +6,9 @@ use Rattle.capi.proofs.sirbolta_locate.Statement.{statement}
 use Rattle.capi.proofs.sirbolta_locate.Tie as tie
 
 returns : tie.Need-returns
-returns c = said (search-replies _ _ (c .replied-search .ensures)) (c .before .before .before .before .before .locate .ensures)
+returns c =
+    let s = c .before .before .before .before .before in
+    rw (← s .before .before .before .content-of .ensures) (said (search-replies _ _ (c .replied-search .ensures)) (s .locate .ensures))
 
 pub sirbolta-locate-spec : {M : Type 1} → statement M
-sirbolta-locate-spec = tie.close (tie.spec (λ c κs. search needs) (λ c κs. search needs) (λ c. search needs) (λ c. search needs) returns)
+sirbolta-locate-spec = tie.close (tie.spec (λ c κs. search needs) (λ c κs. search needs) (λ c κs. search needs) (λ c. search needs) (λ c. search needs) returns)

@@ -25,7 +25,7 @@ returns c =
     let motif = motif-taken input (m .motif-length .result) (m .motif-length .ensures) in
     let bytes = drive-bytes input (λ i h. omega (arith, k .shared-slice-known .given i)) in
     let ok = stored (driveOf input) (s .pre .0 .short) bytes in
-    motif-located sampleOrder input (s .args .positions .now) _ (omega arith) (s .pre .1) ok (s .args .table .now) (take (m .motif-length .result - 0) input) (l .locate .last .1 .1 .0) (l .locate .last .1 .1 .1 .0) (l .locate .result) (s .pre .0 .table) motif (l .locate .ensures)
+    motif-located sampleOrder input (s .args .positions .now) _ (omega arith) (s .pre .1) ok (s .args .table .now) (take (m .motif-length .result - 0) input) (l .locate .last .1 .1 .1 .0) (l .locate .last .1 .1 .1 .1 .0) (l .locate .result) (s .pre .0 .table) motif (l .locate .ensures)
 
 pub locate-motif-spec : {M : Type 1} → statement M
 locate-motif-spec =
