@@ -1,10 +1,14 @@
 /*
  * Sirbolta: a drive stored as its Lyndon grammar, checked, read back and searched.
  *
- * A text is a drive: 0 to 2,047 samples of one byte. A pattern is 1 to 2,047 samples. A table is what sirbolta_build writes: words of 32 bits,
- * at most 4,608. Positions count from 0. Samples are compared as signed numbers, a byte of 128 or more meaning itself minus 256; strings
- * at the first different sample or as a proper prefix, which is the smaller; a Lyndon word is not empty, and smaller than each of its
- * proper suffixes but the empty one.
+ * A text is a drive, as it was recorded or rearranged: 0 to 2,047 samples of one byte. A pattern is 1 to 2,047 samples. A table is what
+ * sirbolta_build writes: words of 32 bits, at most 4,608. Positions count from 0. Samples are compared as signed numbers, a byte of 128 or
+ * more meaning itself minus 256; strings at the first different sample or as a proper prefix, which is the smaller; a Lyndon word is not
+ * empty, and smaller than each of its proper suffixes but the empty one.
+ *
+ * A drive may be rearranged to steps before its table is built: the first sample is kept, and each later one becomes a step, its difference
+ * from the one before, modulo 256. The table does not say that it holds steps. The caller says so, by form, to sirbolta_count and
+ * sirbolta_locate; every other function takes the text as it stands.
  *
  * A former table is one that was built while samples were compared as unsigned numbers. sirbolta_to_signed takes former tables and no
  * others; every other function refuses them by 7, unless all samples of the text are below 128 or none is: the two orders then give the
@@ -14,28 +18,30 @@
  *   - each pointer is valid for its length, and a pointer to words is aligned to 4 bytes;
  *   - the work slice and the result slice overlap neither each other nor an input.
  * Everything else is checked. Inputs are never written, nothing is allocated and nothing is kept between calls, so threads may call at the
- * same time, each with slices of its own. Reading back and locating take up to 240 KiB of stack, every other service less than 2 KiB: some C
+ * same time, each with slices of its own. Reading back and locating take up to 240 KiB of stack, every other service less than 4 KiB: some C
  * libraries give a thread 128 KiB, so a thread that reads back or locates is started with more (pthread_attr_setstacksize).
  *
- * A reply's number is 0 on success; otherwise it is the first of these that is met and concerns the service:
+ * A reply's number is 0 on success; otherwise it is the first in this list that is met and concerns the service:
  *
- *   1  text too long       the text has more than 2,047 samples                        build
+ *   1  text too long       the text has more than 2,047 samples                        build, to_steps, from_steps
  *   2  pattern empty       the pattern has no sample                                   count, locate, live_cuts
  *   3  pattern too long    the pattern has more than 2,047 samples                     count, locate, live_cuts
- *   4  work too short      the work slice has fewer than 16,384 words                  all but live_cuts
- *   5  table length        the table has no word, an odd number, or more than 4,608    all but build and live_cuts
- *   6  bad word            a word of the table is bad                                  all but build and live_cuts
- *   7  not a table         no bad word, yet the table of no text and chair number      all but build, live_cuts and to_signed
+ *  10  no step             the pattern has one sample, and form says steps             count, locate
+ *   4  work too short      the work slice has fewer than 16,384 words                  all with a work slice
+ *   5  table length        the table has no word, an odd number, or more than 4,608    all with a table
+ *   6  bad word            a word of the table is bad                                  all with a table
+ *   7  not a table         no bad word, yet the table of no text and chair number      all with a table but to_signed
  *                          no bad word, yet the former table of none                   to_signed
  *   8  range past the end  start + length is above the text's length (it never wraps)  extract
  *                          the position is not below the text's length                 lyndon_length
- *   9  result too short    the result slice has fewer entries than the result          all but check, count and lyndon_length
+ *   9  result too short    the result slice has fewer entries than the result          all with a result slice
  *
  * Place is the lowest index of a bad word for 6, the entries needed for 9, otherwise 0. Count is what the service says on success, 0 when it
  * refuses. Chair is the chair number where sirbolta_read succeeds, otherwise 0.
  *
  * The result slice afterwards: on success the result stands at its front and the rest is as it was; after a refusal all is as it was.
- * The work slice afterwards: after 1 to 6 it is as it was; after 7, 8, 9 and success its first 16,384 words are 0 and the rest is as it was.
+ * The work slice afterwards: after a refusal that stands above 7 in the list it is as it was; after the others and success its first 16,384
+ * words are 0 and the rest is as it was.
  * What either held before plays no part.
  */
 #ifndef SIRBOLTA_H
@@ -52,7 +58,7 @@ extern "C" {
  * The number of this interface. It goes up whenever a function's parameters or the fields of a reply change; the soname of the shared library ends with it. A program
  * that may meet another library than this header's compares the number with what sirbolta_interface answers, before any other call.
  */
-#define SIRBOLTA_INTERFACE 2
+#define SIRBOLTA_INTERFACE 3
 uint32_t sirbolta_interface(void);
 
 typedef struct { uint32_t number; uint32_t chair; uint64_t place; uint64_t count; } sirbolta_reply;
@@ -64,6 +70,15 @@ typedef struct { uint32_t number; uint32_t chair; uint64_t place; uint64_t count
  * string stands in the text. A pattern of one sample has no test; one of m samples in a text of n has at most n + 2 - m, none where that would be negative.
  */
 typedef struct { uint32_t number; uint32_t chair; uint64_t place; uint64_t count; uint64_t tests; } sirbolta_search_reply;
+
+/*
+ * What a table holds, as form says: steps if bit 0 is set, otherwise samples. Other bits are not looked at.
+ *
+ * Where it holds steps, a pattern of m samples is searched by its m - 1 steps. It is found at each position of the drive, as it was before it was rearranged,
+ * from which the same steps follow: in 5, 7, 9, 3, 5 the pattern 0, 2 is found at 0, 1 and 3. The kept first sample is never a step. Cuts and tests are those of
+ * the m - 1 steps, taken as a pattern.
+ */
+#define SIRBOLTA_STEPS 1
 
 /* Writes the table of a text and a chair number. Count: the words written, two a rule. */
 sirbolta_reply sirbolta_build(const uint8_t *text, size_t text_len, uint16_t chair, uint32_t *work, size_t work_len, uint32_t *result, size_t result_len);
@@ -77,14 +92,17 @@ sirbolta_reply sirbolta_read(const uint32_t *table, size_t table_len, uint32_t *
 /* Writes the part of the text that begins at start and has length samples. Count: the samples written. */
 sirbolta_reply sirbolta_extract(const uint32_t *table, size_t table_len, size_t start, size_t length, uint32_t *work, size_t work_len, uint8_t *result, size_t result_len);
 
-/* Count: how often the pattern begins in the text, overlapping occurrences included. Tests: those of the search, 0 when it refuses. */
-sirbolta_search_reply sirbolta_count(const uint32_t *table, size_t table_len, const uint8_t *pattern, size_t pattern_len, uint32_t *work, size_t work_len);
+/*
+ * Count: how often the pattern begins in the text or, where the table holds steps, is found in the drive, overlapping occurrences included. Tests: those of the
+ * search, 0 when it refuses.
+ */
+sirbolta_search_reply sirbolta_count(const uint32_t *table, size_t table_len, uint32_t form, const uint8_t *pattern, size_t pattern_len, uint32_t *work, size_t work_len);
 
 /*
- * Writes the positions at which the pattern begins in the text, rising, each once. Count: the positions written. Tests: those of the search, 0 when it
- * refuses, by 9 too.
+ * Writes the positions at which the pattern begins in the text or, where the table holds steps, is found in the drive, rising, each once. Count: the positions
+ * written. Tests: those of the search, 0 when it refuses, by 9 too.
  */
-sirbolta_search_reply sirbolta_locate(const uint32_t *table, size_t table_len, const uint8_t *pattern, size_t pattern_len, uint32_t *work, size_t work_len, uint32_t *result, size_t result_len);
+sirbolta_search_reply sirbolta_locate(const uint32_t *table, size_t table_len, uint32_t form, const uint8_t *pattern, size_t pattern_len, uint32_t *work, size_t work_len, uint32_t *result, size_t result_len);
 
 /*
  * Writes the live cuts of the pattern that a search tries, rising, each once, at most 11. Count: the cuts written.
@@ -103,6 +121,12 @@ sirbolta_reply sirbolta_lyndon_array(const uint32_t *table, size_t table_len, ui
 
 /* Writes the table of the text and the chair number of a former table. Count: the words written, two a rule. */
 sirbolta_reply sirbolta_to_signed(const uint32_t *table, size_t table_len, uint32_t *work, size_t work_len, uint32_t *result, size_t result_len);
+
+/* Writes a drive rearranged to steps: its first sample, then the step to each later one. Count: the samples written. */
+sirbolta_reply sirbolta_to_steps(const uint8_t *text, size_t text_len, uint8_t *result, size_t result_len);
+
+/* Writes the drive that sirbolta_to_steps rearranges to this text. Count: the samples written. */
+sirbolta_reply sirbolta_from_steps(const uint8_t *text, size_t text_len, uint8_t *result, size_t result_len);
 
 #ifdef __cplusplus
 }

@@ -107,10 +107,12 @@ def asked(case: dict, kind):
     """What the module answers, as its numbers and the entries written, with the table handed over in one kind. The numbers are the count and, where there is one,
     the chair number or that of tests."""
     table = kind(entries(case.get("arg table", "0/"), 8))
+    drive = bytes(entries(case.get("arg drive", "0/"), 2))
     motif = bytes(entries(case.get("arg motif", "0/"), 2))
+    steps = {"0": False, "1": True}[case.get("arg steps", "0")]
     match case["call"]:
         case "build":
-            words = sirbolta.build(bytes(entries(case["arg drive"], 2)), int(case["arg chair"])).words.tolist()
+            words = sirbolta.build(drive, int(case["arg chair"])).words.tolist()
             return len(words), words
         case "check":
             return sirbolta.check(table), None
@@ -121,9 +123,9 @@ def asked(case: dict, kind):
             text = sirbolta.extract(table, int(case["arg start"]), int(case["arg length"]))
             return len(text), list(text)
         case "count":
-            return sirbolta.count_with_tests(table, motif), None
+            return sirbolta.count_with_tests(table, motif, steps=steps), None
         case "list":
-            places, tests = sirbolta.locate_with_tests(table, motif)
+            places, tests = sirbolta.locate_with_tests(table, motif, steps=steps)
             return (len(places), tests), places
         case "cuts":
             cuts = sirbolta.live_cuts(motif)
@@ -136,6 +138,9 @@ def asked(case: dict, kind):
         case "convert_order":
             words = sirbolta.to_signed(table).words.tolist()
             return len(words), words
+        case "rearrange":
+            text = {"0": sirbolta.to_steps, "1": sirbolta.from_steps}[case["arg inverse"]](drive)
+            return len(text), list(text)
     raise AssertionError(f"an unknown call: {case['call']}")
 
 
@@ -149,7 +154,7 @@ class Vectors(unittest.TestCase):
                 with self.subTest(case, kind=name):
                     self.agrees(case, want, KINDS[name])
             AGREED[case["call"]] = AGREED.get(case["call"], 0) + 1
-        self.assertEqual(sorted(AGREED), ["build", "check", "convert_order", "count", "cuts", "list", "longest", "longest_all", "part", "read"])
+        self.assertEqual(sorted(AGREED), ["build", "check", "convert_order", "count", "cuts", "list", "longest", "longest_all", "part", "read", "rearrange"])
 
     def agrees(self, case, want, kind):
         if want["no"] == "0":
@@ -158,7 +163,7 @@ class Vectors(unittest.TestCase):
             beside = [int(want[name]) for name in ("chair", "tests") if name in want]
             self.assertEqual(answer, (count, *beside) if beside else count)
             if written is not None:
-                digits = 2 if case["call"] in ("read", "part") else 8
+                digits = 2 if case["call"] in ("read", "part", "rearrange") else 8
                 front = case["after result"].removeprefix("front ").removeprefix("-")
                 self.assertEqual(written, entries(f"{count}/0:{front}", digits))
         else:
@@ -171,14 +176,14 @@ class Refusals(unittest.TestCase):
     """Each service refused by each number that concerns it, on the drive `aaaa` and the samples `aa`, with one thing changed."""
 
     NAMES = [
-        "TextTooLong", "PatternEmpty", "PatternTooLong", "WorkTooShort", "TableLength", "BadWord", "NotATable", "RangePastEnd", "ResultTooShort",
+        "TextTooLong", "PatternEmpty", "PatternTooLong", "WorkTooShort", "TableLength", "BadWord", "NotATable", "RangePastEnd", "ResultTooShort", "NoStep",
     ]
     CONCERNED = {
-        "build": [1, 4, 9], "check": [4, 5, 6, 7], "read": [4, 5, 6, 7, 9], "extract": [4, 5, 6, 7, 8, 9], "count": [2, 3, 4, 5, 6, 7],
-        "locate": [2, 3, 4, 5, 6, 7, 9], "live_cuts": [2, 3, 9], "lyndon_length": [4, 5, 6, 7, 8], "lyndon_array": [4, 5, 6, 7, 9],
-        "to_signed": [4, 5, 6, 7, 9],
+        "build": [1, 4, 9], "check": [4, 5, 6, 7], "read": [4, 5, 6, 7, 9], "extract": [4, 5, 6, 7, 8, 9], "count": [2, 3, 10, 4, 5, 6, 7],
+        "locate": [2, 3, 10, 4, 5, 6, 7, 9], "live_cuts": [2, 3, 9], "lyndon_length": [4, 5, 6, 7, 8], "lyndon_array": [4, 5, 6, 7, 9],
+        "to_signed": [4, 5, 6, 7, 9], "to_steps": [1, 9], "from_steps": [1, 9],
     }
-    NEEDED = {"build": 8, "read": 4, "extract": 3, "locate": 3, "live_cuts": 1, "lyndon_array": 4, "to_signed": 12}
+    NEEDED = {"build": 8, "read": 4, "extract": 3, "locate": 3, "live_cuts": 1, "lyndon_array": 4, "to_signed": 12, "to_steps": 2, "from_steps": 2}
     CHANGED = {
         1: {"samples": bytearray(2048)},
         2: {"samples": bytearray()},
@@ -189,21 +194,23 @@ class Refusals(unittest.TestCase):
         7: {"table": sirbolta.Table([98, 0xC0000000])},
         8: {"start": 4, "length": 1, "position": 4},
         9: {"_SAMPLES": 0, "_TABLE": 0, "_CUTS": 0},
+        10: {"samples": bytearray(b"a"), "steps": True},
     }
 
     def setUp(self):
-        self.usual = {"table": sirbolta.build(b"aaaa", 40), "samples": bytearray(b"aa"), "chair": 40, "start": 0, "length": 3, "position": 3}
+        self.usual = {"table": sirbolta.build(b"aaaa", 40), "samples": bytearray(b"aa"), "chair": 40, "start": 0, "length": 3, "position": 3, "steps": False}
         self.answers = {
             "build": sirbolta.Table([0, 0xC0000028, 98, 0xC0000000, 0x40000000, 0x80000001, 0x40000002, 0x80000001]), "check": 6, "read": (b"aaaa", 40),
             "extract": b"aaa", "count": 3, "locate": [0, 1, 2], "live_cuts": [1], "lyndon_length": 1, "lyndon_array": [1, 1, 1, 1],
-            "to_signed": self.usual["table"],
+            "to_signed": self.usual["table"], "to_steps": b"a\0", "from_steps": b"a\xc2",
         }
 
     def ask(self, service, given):
         arguments = {"build": ["samples", "chair"], "extract": ["table", "start", "length"], "live_cuts": ["samples"]}
         arguments |= {"check": ["table"], "read": ["table"], "count": ["table", "samples"], "locate": ["table", "samples"]}
-        arguments |= {"lyndon_length": ["table", "position"], "lyndon_array": ["table"], "to_signed": ["table"]}
-        return getattr(sirbolta, service)(*[given[name] for name in arguments[service]])
+        arguments |= {"lyndon_length": ["table", "position"], "lyndon_array": ["table"], "to_signed": ["table"], "to_steps": ["samples"], "from_steps": ["samples"]}
+        named = {"steps": given["steps"]} if service in ("count", "locate") else {}
+        return getattr(sirbolta, service)(*[given[name] for name in arguments[service]], **named)
 
     def test_every_refusal_of_every_service(self):
         for service, numbers in self.CONCERNED.items():
@@ -221,7 +228,7 @@ class Refusals(unittest.TestCase):
                     self.assertEqual({name: self.ask(name, self.usual) for name in self.answers}, self.answers)
 
     def test_what_does_not_concern_a_service(self):
-        for service, number in [("live_cuts", 4), ("check", 9), ("count", 9), ("lyndon_length", 9)]:
+        for service, number in [("live_cuts", 4), ("to_steps", 4), ("from_steps", 4), ("check", 9), ("count", 9), ("lyndon_length", 9)]:
             with self.subTest(service=service, number=number), patch.multiple(sirbolta, **self.CHANGED[number]):
                 self.assertEqual(self.ask(service, self.usual), self.answers[service])
 
@@ -300,7 +307,14 @@ class Module(unittest.TestCase):
             self.wrong_type(sentence, sirbolta.count, self.table, samples)
             self.wrong_type(sentence, sirbolta.locate, self.table, samples)
             self.wrong_type(sentence, sirbolta.live_cuts, samples)
+            self.wrong_type(sentence, sirbolta.to_steps, samples)
+            self.wrong_type(sentence, sirbolta.from_steps, samples)
         self.wrong_type("samples are single bytes", sirbolta.build, array("I"), 40)
+        for steps in [0, 1, None, "", b"ab", self.table]:
+            sentence = f"steps is True or False, not {type(steps).__name__}"
+            self.wrong_type(sentence, sirbolta.count, self.table, b"ab", steps=steps)
+            self.wrong_type(sentence, sirbolta.locate, self.table, b"ab", steps=steps)
+            self.wrong_type(sentence, sirbolta.count_each, [self.table], b"ab", steps=steps)
         for number in [True, False, 1.0, "1", None]:
             kind = type(number).__name__
             self.wrong_type(f"the chair number is a whole number, not {kind}", sirbolta.build, b"abab", number)
@@ -309,10 +323,10 @@ class Module(unittest.TestCase):
             self.wrong_type(f"position is a whole number, not {kind}", sirbolta.lyndon_length, self.table, number)
             self.wrong_type(f"a word of a table is a whole number, not {kind}", sirbolta.check, [0, number])
 
-    def wrong_type(self, sentence, service, *arguments):
-        with self.subTest(service=service.__name__, arguments=arguments):
+    def wrong_type(self, sentence, service, *arguments, **named):
+        with self.subTest(service=service.__name__, arguments=arguments, **named):
             with self.assertRaises(TypeError) as raised:
-                service(*arguments)
+                service(*arguments, **named)
             self.assertEqual(str(raised.exception), sentence)
 
     def test_samples_of_other_kinds(self):
@@ -322,6 +336,7 @@ class Module(unittest.TestCase):
         self.assertEqual(sirbolta.locate(self.table, array("b", b"ab")), [0, 2])
         self.assertEqual(sirbolta.build(Told(b"abab"), 40), self.table)
         self.assertEqual((sirbolta.count(self.table, Told(b"ab")), sirbolta.live_cuts(Told(b"aaba"))), (2, [1, 3]))
+        self.assertEqual((sirbolta.to_steps(memoryview(b"a?b?")[::2]), sirbolta.from_steps(Told(b"a\1"))), (b"a\1", b"ab"))
 
     def test_largest(self):
         text = bytes(i // 8 ^ 128 for i in range(2047))  # -128 to 127
@@ -335,6 +350,8 @@ class Module(unittest.TestCase):
             word += bytes([sample]) + word
         cuts = sirbolta.live_cuts(b"z" + word)
         self.assertEqual([1536 - cut for cut in cuts], [1535, 767, 383, 191, 95, 47, 23, 11, 5, 2, 1])
+        self.assertEqual(sirbolta.to_steps(text), bytes([128] + [i % 8 == 0 for i in range(1, 2047)]))
+        self.assertEqual(sirbolta.from_steps(sirbolta.to_steps(text)), text)
 
     def test_live_cuts_that_are_left_out(self):
         for pattern, cuts in [(b"aaaa", [1, 3]), (b"bababab", [1, 5]), (b"baabaabaab", [1, 7]), (b"baabaabaa", [1, 7, 8]), (bytes(2047), [1, 2046])]:
@@ -393,6 +410,9 @@ class Module(unittest.TestCase):
 class Searches(unittest.TestCase):
     """Counting and locating with the number of tests, and without: the same search."""
 
+    def setUp(self):
+        self.table = sirbolta.build(b"abab", 40)
+
     def test_tests(self):
         few, equal, none = sirbolta.build(b"abab", 40), sirbolta.build(bytes(2047), 40), sirbolta.build(b"", 40)
         for table, pattern, places, tests in [
@@ -402,6 +422,37 @@ class Searches(unittest.TestCase):
             with self.subTest(pattern=pattern[:8], samples=len(pattern)):
                 self.assertEqual((table.count_with_tests(pattern), table.locate_with_tests(pattern)), ((len(places), tests), (places, tests)))
                 self.assertEqual((table.count(pattern), table.locate(pattern)), (len(places), places))
+
+    def test_by_steps(self):
+        few, equal, none = sirbolta.build(bytes([5, 2, 2, 250, 2]), 40), sirbolta.build(bytes(2047), 40), sirbolta.build(b"", 40)
+        for table, pattern, places, tests in [
+            (few, b"\0\2", [0, 1, 3], 0), (few, b"\xff\1", [0, 1, 3], 0), (few, b"\0\5", [], 0), (few, b"\0\2\4", [0], 5), (few, b"\0\5\7", [], 5),
+            (few, b"\x09\x0b\x0d\x07\x09", [0], 1), (few, b"\0\5\7\x09\x03\x05", [], 1), (equal, b"aa", [*range(2046)], 0), (equal, b"aaa", [*range(2045)], 2047),
+            (equal, b"a" * 2047, [0], 3), (none, b"ab", [], 0),
+        ]:
+            with self.subTest(pattern=pattern[:8], samples=len(pattern)):
+                counted, located = table.count_with_tests(pattern, steps=True), table.locate_with_tests(pattern, steps=True)
+                self.assertEqual((counted, located), ((len(places), tests), (places, tests)))
+                self.assertEqual((table.count(pattern, steps=True), table.locate(pattern, steps=True)), (len(places), places))
+                self.assertEqual(sirbolta.count_each([table, bytes(table)], pattern, steps=True), [len(places)] * 2)
+
+    def test_by_steps_whatever_the_centre(self):
+        drive = bytes((i * i * 40503 >> 7) % 3 for i in range(2000))
+        places = [i for i in range(1997) if all(drive[i + j] - drive[i + j - 1] == drive[6 + j] - drive[5 + j] for j in (1, 2, 3))]
+        for centre in 0, 1, 127, 128, 254, 255:
+            moved = bytes((sample + centre) % 256 for sample in drive)
+            table = sirbolta.build(sirbolta.to_steps(moved), 40)
+            for motif in drive[6:10], moved[6:10]:
+                self.assertEqual((table.locate(motif, steps=True), table.count(motif, steps=True)), (places, len(places)))
+            self.assertEqual(sirbolta.from_steps(table.read()[0]), moved)
+
+    def test_one_sample_has_no_step(self):
+        for table in self.table, bytes(self.table), []:
+            for service in sirbolta.count, sirbolta.count_with_tests, sirbolta.locate, sirbolta.locate_with_tests:
+                self.assertRaises(sirbolta.NoStep, service, table, b"a", steps=True)
+            with self.assertRaises(sirbolta.NoStep) as raised:
+                sirbolta.count_each([table], b"a", steps=True)
+            self.assertEqual((raised.exception.place, raised.exception.table), (0, 0))
 
 
 class Tables(unittest.TestCase):
@@ -469,7 +520,8 @@ class Lending(unittest.TestCase):
         """The first argument of a call, its number of words, and the work slice."""
         with patch.object(sirbolta._library, "sirbolta_count", wraps=sirbolta._library.sirbolta_count) as call:
             self.assertEqual(sirbolta.count(table, b"ab"), 2)
-        start, length, _, _, work, _ = call.call_args.args
+        start, length, form, _, _, work, _ = call.call_args.args
+        self.assertEqual(form, 0)
         return start, length, work
 
     def test_words_are_not_copied(self):
@@ -508,6 +560,8 @@ class Lending(unittest.TestCase):
         self.given_back(sirbolta.check, array("i", [0]))
         self.given_back(sirbolta.Table, bytearray(7))
         self.given_back(sirbolta.build, array("I", [0]), 40)
+        self.given_back(sirbolta.to_steps, bytearray(2048))
+        self.given_back(sirbolta.from_steps, array("I", [0]))
 
     def given_back(self, service, buffer, *arguments):
         try:
@@ -573,6 +627,7 @@ class Stacks(unittest.TestCase):
         self.assertRaisesRegex(RuntimeError, "240 KiB of stack are needed, and this thread has 12[0-9] KiB in all", table.locate, b"a")
         self.assertEqual((table.check(), table.count(b"a"), table.extract(2046, 1)), (2049, 2047, b"a"))
         self.assertEqual((table.lyndon_length(0), table.lyndon_array(), table.to_signed()), (1, [1] * 2047, table))
+        self.assertEqual((table.count(b"aa", steps=True), sirbolta.from_steps(sirbolta.to_steps(self.TEXTS[2]))), (0, self.TEXTS[2]))
 
     def on_threads(self, stack, work):
         usual = threading.stack_size(stack)
@@ -589,8 +644,8 @@ class Stacks(unittest.TestCase):
         self.on_threads(512 << 10, self.served)
 
     def test_32_kib(self):
-        code = "threading.stack_size(32 << 10)\nthreading.Thread(target=lambda: print(table.count(b'a'))).start()"
-        self.assertEqual(run(code), ("2047\n", "", 0))
+        code = "threading.stack_size(32 << 10)\nthreading.Thread(target=lambda: print(table.count(b'a'), table.count(b'\\0a', steps=True))).start()"
+        self.assertEqual(run(code), ("2047 2046\n", "", 0))
 
     def test_a_thread_that_is_numbered_otherwise(self):
         code = "usual, threading.get_ident = threading.get_ident, lambda: 4242\nprint(sirbolta._native.stack() > 0)\nthreading.get_ident = usual"

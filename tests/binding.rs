@@ -8,7 +8,7 @@ mod vector_file;
 
 use calls::*;
 use former::former_table;
-use sirbolta::{Reading, Refusal, Search, CUTS, SAMPLES, TABLE, WORK};
+use sirbolta::{Content, Reading, Refusal, Search, CUTS, SAMPLES, TABLE, WORK};
 use vector_file::{cases, Test};
 
 fn main() {
@@ -16,7 +16,7 @@ fn main() {
     assert!(agreed > 0, "usage: binding FILE..");
     every_refusal();
     largest();
-    println!("rust module: {agreed} cases agree, 9 refusals by name");
+    println!("rust module: {agreed} cases agree, {REFUSALS} refusals by name");
 }
 
 /// How many cases of a file call a service. All of them agree, or the run ends.
@@ -38,6 +38,7 @@ fn agreeing(file: &str) -> usize {
 fn serve(call: &Call, lent: &Slices) -> (Outcome, Slices) {
     let mut left = lent.clone();
     let Slices { work, words, bytes } = &mut left;
+    let content = if call.by_steps() { Content::Steps } else { Content::Samples };
     let answer = match call {
         Call::Build { text, chair } => sirbolta::build(text, *chair, work, words),
         Call::Check { table } => sirbolta::check(table, work),
@@ -46,14 +47,16 @@ fn serve(call: &Call, lent: &Slices) -> (Outcome, Slices) {
         Call::LyndonLength { table, position } => sirbolta::lyndon_length(table, *position, work),
         Call::LyndonArray { table } => sirbolta::lyndon_array(table, work, words),
         Call::ToSigned { table } => sirbolta::to_signed(table, work, words),
+        Call::ToSteps { text } => sirbolta::to_steps(text, bytes),
+        Call::FromSteps { text } => sirbolta::from_steps(text, bytes),
         Call::Read { table } => return (outcome(sirbolta::read(table, work, bytes), |read| (read.samples, read.chair, 0)), left),
-        Call::Count { table, pattern } => {
-            let count = sirbolta::count(table, pattern, &mut work.clone());
-            return (searched(sirbolta::count_with_tests(table, pattern, work), count), left);
+        Call::Count { table, pattern, .. } => {
+            let count = sirbolta::count(table, content, pattern, &mut work.clone());
+            return (searched(sirbolta::count_with_tests(table, content, pattern, work), count), left);
         }
-        Call::Locate { table, pattern } => {
-            let count = sirbolta::locate(table, pattern, &mut work.clone(), &mut words.clone());
-            return (searched(sirbolta::locate_with_tests(table, pattern, work, words), count), left);
+        Call::Locate { table, pattern, .. } => {
+            let count = sirbolta::locate(table, content, pattern, &mut work.clone(), &mut words.clone());
+            return (searched(sirbolta::locate_with_tests(table, content, pattern, work, words), count), left);
         }
     };
     (outcome(answer, |count| (count, 0, 0)), left)
@@ -73,8 +76,8 @@ fn outcome<T>(answer: Result<T, Refusal>, numbers: impl FnOnce(T) -> (usize, u16
     }
 }
 
-/// The largest table, also converted, the most positions, the most tests, the most cuts, and the most and longest Lyndon words, in slices of the lengths that the
-/// module names.
+/// The largest table, also converted, the most positions, the most tests, the most cuts, the most and longest Lyndon words, and the longest drive rearranged and
+/// restored, in slices of the lengths that the module names.
 fn largest() {
     let mut work = vec![7; WORK];
     let mut result = vec![7; TABLE];
@@ -94,16 +97,26 @@ fn largest() {
     assert_eq!(sirbolta::to_signed(&former, &mut work, &mut result), Ok(4608));
     assert_eq!(result, table);
     let words = sirbolta::build(&[0; 2047], 0, &mut work, &mut result).unwrap();
-    assert_eq!(sirbolta::locate(&result[..words], &[0], &mut work, &mut entries), Ok(2047));
+    let table = &result[..words];
+    assert_eq!(sirbolta::locate(table, Content::Samples, &[0], &mut work, &mut entries), Ok(2047));
     assert!(entries.iter().copied().eq(0..2047));
-    assert_eq!(sirbolta::count_with_tests(&result[..words], &[0; 2], &mut work), Ok(Search { count: 2046, tests: 2047 }));
-    assert_eq!(sirbolta::locate_with_tests(&result[..words], &[0; 2], &mut work, &mut entries), Ok(Search { count: 2046, tests: 2047 }));
+    let most = Ok(Search { count: 2046, tests: 2047 });
+    assert_eq!(sirbolta::count_with_tests(table, Content::Samples, &[0; 2], &mut work), most);
+    assert_eq!(sirbolta::locate_with_tests(table, Content::Samples, &[0; 2], &mut work, &mut entries), most);
+    assert_eq!(sirbolta::locate_with_tests(table, Content::Steps, &[9; 2], &mut work, &mut entries), Ok(Search { count: 2046, tests: 0 }));
+    assert!(entries.iter().copied().take(2046).eq(0..2046));
+    assert_eq!(sirbolta::count(table, Content::Steps, &[9; 2047], &mut work), Ok(1));
     let word = b"bcdefghij".iter().fold(b"aa".to_vec(), |word, &sample| [&word[..], &[sample], &word[..]].concat());
     let pattern = [b"z", &word[..]].concat();
     let mut cuts = [7; CUTS];
     assert_eq!(sirbolta::live_cuts(&pattern, &mut cuts[1..]), Err(Refusal::ResultTooShort { needed: 11 }));
     assert_eq!(sirbolta::live_cuts(&pattern, &mut cuts), Ok(11));
     assert_eq!(cuts.map(|cut| 1536 - cut), [1535, 767, 383, 191, 95, 47, 23, 11, 5, 2, 1]);
+    let mut steps = vec![7; SAMPLES];
+    assert_eq!(sirbolta::to_steps(&text, &mut steps), Ok(2047));
+    assert!(steps.iter().copied().eq((0..2047).map(|i| if i == 0 { 128 } else { (i % 8 == 0) as u8 })));
+    assert_eq!(sirbolta::from_steps(&steps, &mut bytes), Ok(2047));
+    assert_eq!(bytes, text);
 }
 
 /// The table of a text and the largest chair number.
@@ -122,14 +135,15 @@ fn every_refusal() {
     let table = result[..words].to_vec();
     let answers = [
         sirbolta::build(&[0; 2048], 40, &mut work, &mut result),
-        sirbolta::count(&table, b"", &mut work),
+        sirbolta::count(&table, Content::Samples, b"", &mut work),
         sirbolta::live_cuts(&[0; 2048], &mut result),
         sirbolta::check(&table, &mut work[1..]),
         sirbolta::check(&table[1..], &mut work),
         sirbolta::check(&[0, 3 << 30, 257, 3 << 30], &mut work),
         sirbolta::check(&[98, 3 << 30], &mut work),
         sirbolta::extract(&table, 3, usize::MAX, &mut work, &mut bytes),
-        sirbolta::locate(&table, b"aa", &mut work, &mut result[..2]),
+        sirbolta::locate(&table, Content::Samples, b"aa", &mut work, &mut result[..2]),
+        sirbolta::count(&table, Content::Steps, b"a", &mut work),
     ];
     let names = [
         Refusal::TextTooLong,
@@ -141,7 +155,9 @@ fn every_refusal() {
         Refusal::NotATable,
         Refusal::RangePastEnd,
         Refusal::ResultTooShort { needed: 3 },
+        Refusal::NoStep,
     ];
+    assert_eq!(names.len(), REFUSALS);
     for (i, (answer, name)) in answers.into_iter().zip(names).enumerate() {
         assert_eq!(answer, Err(name));
         assert_eq!(name.number() as usize, i + 1);
@@ -150,6 +166,9 @@ fn every_refusal() {
     assert_eq!(sirbolta::lyndon_length(&table, 4, &mut work), Err(Refusal::RangePastEnd));
     assert_eq!(sirbolta::lyndon_array(&table, &mut work, &mut result[..3]), Err(Refusal::ResultTooShort { needed: 4 }));
     assert_eq!(sirbolta::to_signed(&table, &mut work, &mut result[..11]), Err(Refusal::ResultTooShort { needed: 12 }));
+    assert_eq!(sirbolta::locate(&table, Content::Steps, b"a", &mut work[1..], &mut result), Err(Refusal::NoStep));
+    assert_eq!(sirbolta::to_steps(b"aaaa", &mut bytes[..3]), Err(Refusal::ResultTooShort { needed: 4 }));
+    assert_eq!(sirbolta::from_steps(&[0; 2048], &mut bytes), Err(Refusal::TextTooLong));
     assert_eq!(sirbolta::read(&table, &mut work, &mut bytes), Ok(Reading { samples: 4, chair: 40 }));
     assert_eq!(&bytes[..5], b"aaaa\x07");
 }

@@ -7,12 +7,14 @@ pub enum Call {
     Check { table: Vec<u32> },
     Read { table: Vec<u32> },
     Extract { table: Vec<u32>, start: usize, length: usize },
-    Count { table: Vec<u32>, pattern: Vec<u8> },
-    Locate { table: Vec<u32>, pattern: Vec<u8> },
+    Count { table: Vec<u32>, form: u32, pattern: Vec<u8> },
+    Locate { table: Vec<u32>, form: u32, pattern: Vec<u8> },
     Cuts { pattern: Vec<u8> },
     LyndonLength { table: Vec<u32>, position: usize },
     LyndonArray { table: Vec<u32> },
     ToSigned { table: Vec<u32> },
+    ToSteps { text: Vec<u8> },
+    FromSteps { text: Vec<u8> },
 }
 
 /// The slices lent to a call. The result slice is the one in the service's unit, words or bytes; a slice that the service does not take is empty.
@@ -33,12 +35,24 @@ pub struct Outcome {
     pub tests: u64,
 }
 
-pub const SERVICES: [&str; 10] = ["build", "check", "read", "extract", "count", "locate", "cuts", "lyndon length", "lyndon array", "to signed"];
+/// The services; a search by steps has a name of its own.
+pub const SERVICES: [&str; 14] = [
+    "build", "check", "read", "extract", "count", "locate", "cuts", "lyndon length", "lyndon array", "to signed", "to steps", "from steps", "count by steps",
+    "locate by steps",
+];
+
+/// The highest number of a refusal.
+pub const REFUSALS: usize = 10;
+
+/// The bit of a form that says that the table holds steps.
+pub const STEPS: u32 = 1;
 
 impl Call {
     /// The service's place in `SERVICES`.
     pub fn service(&self) -> usize {
         match self {
+            Call::Count { .. } if self.by_steps() => 12,
+            Call::Locate { .. } if self.by_steps() => 13,
             Call::Build { .. } => 0,
             Call::Check { .. } => 1,
             Call::Read { .. } => 2,
@@ -49,7 +63,14 @@ impl Call {
             Call::LyndonLength { .. } => 7,
             Call::LyndonArray { .. } => 8,
             Call::ToSigned { .. } => 9,
+            Call::ToSteps { .. } => 10,
+            Call::FromSteps { .. } => 11,
         }
+    }
+
+    /// Whether the call is a search by steps.
+    pub fn by_steps(&self) -> bool {
+        matches!(self, Call::Count { form, .. } | Call::Locate { form, .. } if form & STEPS != 0)
     }
 }
 

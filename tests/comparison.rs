@@ -38,6 +38,7 @@ impl Comparison {
 
     fn short_texts(mut self) -> Tally {
         self.every_small_text();
+        self.every_small_drive();
         self.powers();
         for table in (1..=5).flat_map(every_table) {
             self.compare_once(Call::Check { table: table.clone() });
@@ -83,16 +84,17 @@ impl Comparison {
         self.tally
     }
 
-    /// Every text of the samples 1 and -1 up to 7 samples, with every pattern up to 4 and every position, and listed cuts, Lyndon arrays and conversion up to 10;
-    /// these also of the four samples at the ends of both orders, up to 5.
+    /// Every text of the samples 1 and -1 up to 7 samples, with every pattern up to 4, as samples and as steps, and every position, and listed cuts, Lyndon arrays and
+    /// conversion up to 10; these also of the four samples at the ends of both orders, up to 5.
     fn every_small_text(&mut self) {
         let two = |n| every_text(&[1, 255], n);
         for text in (0..=7).flat_map(two) {
             let table = self.table_of(&text, 40);
             self.compare_once(Call::Read { table: table.clone() });
             for pattern in (1..=4).flat_map(two) {
-                self.compare_once(Call::Count { table: table.clone(), pattern: pattern.clone() });
-                self.compare_once(Call::Locate { table: table.clone(), pattern });
+                self.find(&table, 0, &pattern);
+                let pattern = self.with_steps(&pattern);
+                self.find(&table, STEPS, &pattern);
             }
             for position in 0..=text.len() {
                 self.compare_once(Call::LyndonLength { table: table.clone(), position });
@@ -108,6 +110,31 @@ impl Comparison {
             self.compare_once(Call::Check { table: former });
             self.compare_once(Call::Cuts { pattern: text });
         }
+    }
+
+    /// Every drive of the four samples at the ends of both orders up to 4 samples, rearranged, restored, and searched by steps with every pattern of them up to 3.
+    fn every_small_drive(&mut self) {
+        let four = |n| every_text(&[0, 127, 128, 255], n);
+        for drive in (0..=4).flat_map(four) {
+            self.compare_once(Call::ToSteps { text: drive.clone() });
+            self.compare_once(Call::FromSteps { text: drive.clone() });
+            let table = self.table_of(&naive::to_steps(&drive), 40);
+            for pattern in (1..=3).flat_map(four) {
+                self.find(&table, STEPS, &pattern);
+            }
+        }
+    }
+
+    /// A pattern counted and located.
+    fn find(&mut self, table: &[u32], steps: u32, pattern: &[u8]) {
+        let form = self.generator.form(steps);
+        self.compare_once(Call::Count { table: table.to_vec(), form, pattern: pattern.to_vec() });
+        self.compare_once(Call::Locate { table: table.to_vec(), form, pattern: pattern.to_vec() });
+    }
+
+    /// A pattern that has these steps, behind any first sample.
+    fn with_steps(&mut self, steps: &[u8]) -> Vec<u8> {
+        naive::from_steps(&[&[self.generator.sample()], steps].concat())
     }
 
     /// The cuts of every pattern of the samples 1 and -1 from 11 up to 14 samples; and of patterns of lengths around powers of two: equal samples, fronts that are
@@ -128,7 +155,7 @@ impl Comparison {
         }
     }
 
-    /// Ends of a pattern with many listed cuts, counted and located in drives made of its parts: at a join some tails fit and others do not.
+    /// Ends of a pattern with many listed cuts, counted and located, as samples and as steps, in texts made of its parts: at a join some tails fit and others do not.
     fn nested_in_parts(&mut self, n: usize) {
         let pattern = nested(b'a', n);
         for _ in 0..8 {
@@ -141,15 +168,17 @@ impl Comparison {
             text.truncate(2047);
             let table = self.table_of(&text, 40);
             let i = self.generator.below(n);
-            self.compare_once(Call::Count { table: table.clone(), pattern: pattern[i..].to_vec() });
-            self.compare_once(Call::Locate { table, pattern: pattern[i / 2..].to_vec() });
+            self.compare_once(Call::Count { table: table.clone(), form: 0, pattern: pattern[i..].to_vec() });
+            self.compare_once(Call::Locate { table: table.clone(), form: 0, pattern: pattern[i / 2..].to_vec() });
+            let pattern = self.with_steps(&pattern[i..]);
+            self.find(&table, STEPS, &pattern);
         }
     }
 
     /// The cuts of a pattern, and the pattern located in the drive that it is.
     fn power(&mut self, pattern: Vec<u8>) {
         let table = self.table_of(&pattern, 40);
-        self.compare_once(Call::Locate { table, pattern: pattern.clone() });
+        self.compare_once(Call::Locate { table, form: 0, pattern: pattern.clone() });
         self.compare(Call::Cuts { pattern });
     }
 
@@ -157,6 +186,8 @@ impl Comparison {
     fn text(&mut self, text: &[u8], searches: usize, damages: usize) {
         let chair = self.generator.chair();
         self.compare(Call::Build { text: text.to_vec(), chair });
+        self.compare(Call::ToSteps { text: text.to_vec() });
+        self.compare(Call::FromSteps { text: text.to_vec() });
         let text = &text[..text.len().min(2047)];
         let table = self.table_of(text, chair);
         self.compare(Call::Check { table: table.clone() });
@@ -164,6 +195,7 @@ impl Comparison {
         for _ in 0..searches {
             self.search(&table, text);
         }
+        self.moved(text);
         self.conversion(&table, &naive::table_of(Order::Unsigned, text, chair), damages);
         for _ in 0..damages {
             let other = self.generator.damaged(&table);
@@ -175,18 +207,55 @@ impl Comparison {
         }
     }
 
-    /// A part, a count, a list, listed cuts, a Lyndon length and all of them.
+    /// A part, a count and a list by samples and by steps, listed cuts, a Lyndon length and all of them.
     fn search(&mut self, table: &[u32], text: &[u8]) {
         let start = self.generator.bound(text.len());
         let length = self.generator.bound(text.len().saturating_sub(start));
         self.compare(Call::Extract { table: table.to_vec(), start, length });
-        let pattern = self.generator.pattern(text);
-        self.compare(Call::Count { table: table.to_vec(), pattern: pattern.clone() });
-        self.compare(Call::Locate { table: table.to_vec(), pattern: pattern.clone() });
+        let (form, pattern) = (self.generator.form(STEPS), self.step_pattern(text));
+        self.compare(Call::Count { table: table.to_vec(), form, pattern: pattern.clone() });
+        self.compare(Call::Locate { table: table.to_vec(), form, pattern });
+        let (form, pattern) = (self.generator.form(0), self.generator.pattern(text));
+        self.compare(Call::Count { table: table.to_vec(), form, pattern: pattern.clone() });
+        self.compare(Call::Locate { table: table.to_vec(), form, pattern: pattern.clone() });
         self.compare(Call::Cuts { pattern });
         let position = self.generator.bound(text.len());
         self.compare(Call::LyndonLength { table: table.to_vec(), position });
         self.compare(Call::LyndonArray { table: table.to_vec() });
+    }
+
+    /// A pattern to be searched by its steps in a text that is taken as steps: one for the drive, the same with a number added to every sample, or one that has as
+    /// steps a pattern for the text, or the text's front, which stands where no step does.
+    fn step_pattern(&mut self, text: &[u8]) -> Vec<u8> {
+        let pattern = self.generator.pattern(&naive::from_steps(text));
+        let front = text.len().min(1 + self.generator.below(6));
+        match self.generator.below(4) {
+            0 => pattern,
+            1 => added(&pattern, self.generator.sample()),
+            2 => {
+                let steps = self.generator.pattern(text);
+                self.with_steps(&steps)
+            }
+            _ => self.with_steps(&text[..front]),
+        }
+    }
+
+    /// A pattern located by its steps in a drive, then again with a number added to every sample of the pattern, of the drive, and of both: at the same positions.
+    fn moved(&mut self, drive: &[u8]) {
+        let (pattern, number) = (self.generator.pattern(drive), self.generator.sample());
+        let positions = self.located_by_steps(drive, &pattern);
+        let (other_drive, other_pattern) = (added(drive, number), added(&pattern, number));
+        for (drive, pattern) in [(drive, &other_pattern), (&other_drive, &pattern), (&other_drive, &other_pattern)] {
+            assert_eq!(self.located_by_steps(drive, pattern), positions, "{pattern:?} in {drive:?}");
+        }
+    }
+
+    fn located_by_steps(&mut self, drive: &[u8], pattern: &[u8]) -> Vec<u32> {
+        let table = self.table_of(&naive::to_steps(drive), 40);
+        let call = Call::Locate { table, form: self.generator.form(STEPS), pattern: pattern.to_vec() };
+        let lent = self.lent(&call, 16384, 2047);
+        let (outcome, left) = self.compared(&call, &lent);
+        left.words[..outcome.count as usize].to_vec()
     }
 
     /// The table of a text in the former order converted; that in the signed order converted and the former one checked, both refused unless they are the same;
@@ -232,6 +301,7 @@ impl Comparison {
                 Slices { work: g.words(work), words: g.words(result), bytes: vec![] }
             }
             Call::Read { .. } | Call::Extract { .. } => Slices { work: g.words(work), words: vec![], bytes: g.bytes(result) },
+            Call::ToSteps { .. } | Call::FromSteps { .. } => Slices { work: vec![], words: vec![], bytes: g.bytes(result) },
             Call::Check { .. } | Call::Count { .. } | Call::LyndonLength { .. } => {
                 Slices { work: g.words(work), words: vec![], bytes: vec![] }
             }
@@ -257,13 +327,14 @@ impl Comparison {
         want
     }
 
-    /// Which bound a search breaks: for m samples among n it makes more than n + 2 - m tests, none where that would be negative.
+    /// Which bound a search breaks: for m samples or steps among n it makes more than n + 2 - m tests, none where that would be negative.
     fn too_many_tests(&mut self, call: &Call, outcome: Outcome) -> Option<String> {
         let (Call::Count { pattern, .. } | Call::Locate { pattern, .. }) = call else { return None };
         if outcome.number != 0 {
             return None;
         }
-        let most = (self.naive.samples(call) + 2).saturating_sub(pattern.len());
+        let m = if call.by_steps() { pattern.len() - 1 } else { pattern.len() };
+        let most = (self.naive.samples(call) + 2).saturating_sub(m);
         (outcome.tests > most as u64).then(|| format!("{} tests, where {most} are the most", outcome.tests))
     }
 }
@@ -276,6 +347,11 @@ fn broken_bound(call: &Call, (outcome, left): &(Outcome, Slices)) -> Option<Stri
     let many = outcome.number == 0 && tails.len() > 1 + pattern.len().ilog2() as usize;
     let near = tails.windows(2).any(|pair| pair[0] < 2 * pair[1]);
     (many || near).then(|| format!("tails of {tails:?} samples"))
+}
+
+/// The samples, each with a number added, modulo 256.
+fn added(samples: &[u8], number: u8) -> Vec<u8> {
+    samples.iter().map(|sample| sample.wrapping_add(number)).collect()
 }
 
 /// Every text of n samples of these values.

@@ -43,6 +43,12 @@ impl Generator {
         self.words(n).iter().map(|&word| word as u8).collect()
     }
 
+    /// A form with this bit 0, which says steps or samples, and other bits, which are not looked at.
+    pub fn form(&mut self, steps: u32) -> u32 {
+        let any = self.next() as u32;
+        self.one_of(&[0, 0, 2, 1 << 31, 0xFFFF_FFFE, any & 0xFFFF_FFFE]) | steps
+    }
+
     pub fn chair(&mut self) -> u16 {
         let any = self.next() as u16;
         self.one_of(&[0, 1, 40, 65535, any])
@@ -64,7 +70,7 @@ impl Generator {
     }
 
     /// A sample, often one at an end of the signed or the unsigned order.
-    fn sample(&mut self) -> u8 {
+    pub fn sample(&mut self) -> u8 {
         let any = self.next() as u8;
         self.one_of(&[0, 127, 128, 255, b'a', b'b', any])
     }

@@ -24,12 +24,14 @@ pub fn serve(call: &Call, lent: &Slices, null: bool) -> Result<(Outcome, Slices)
             Call::Check { .. } => replied(sirbolta_check(t, tn, w, wn)),
             Call::Read { .. } => replied(sirbolta_read(t, tn, w, wn, b, bn)),
             Call::Extract { start, length, .. } => replied(sirbolta_extract(t, tn, *start, *length, w, wn, b, bn)),
-            Call::Count { .. } => found(sirbolta_count(t, tn, s, sn, w, wn)),
-            Call::Locate { .. } => found(sirbolta_locate(t, tn, s, sn, w, wn, r, rn)),
+            Call::Count { form, .. } => found(sirbolta_count(t, tn, *form, s, sn, w, wn)),
+            Call::Locate { form, .. } => found(sirbolta_locate(t, tn, *form, s, sn, w, wn, r, rn)),
             Call::Cuts { .. } => replied(sirbolta_live_cuts(s, sn, r, rn)),
             Call::LyndonLength { position, .. } => replied(sirbolta_lyndon_length(t, tn, *position, w, wn)),
             Call::LyndonArray { .. } => replied(sirbolta_lyndon_array(t, tn, w, wn, r, rn)),
             Call::ToSigned { .. } => replied(sirbolta_to_signed(t, tn, w, wn, r, rn)),
+            Call::ToSteps { .. } => replied(sirbolta_to_steps(s, sn, b, bn)),
+            Call::FromSteps { .. } => replied(sirbolta_from_steps(s, sn, b, bn)),
         }
     };
     if text_lent.taken_back("samples")? != text || table_lent.taken_back("table")? != table {
@@ -42,9 +44,9 @@ pub fn serve(call: &Call, lent: &Slices, null: bool) -> Result<(Outcome, Slices)
 /// The samples, of a text or a pattern, and the table that the call hands over.
 fn inputs(call: &Call) -> (&[u8], &[u32]) {
     match call {
-        Call::Build { text, .. } => (text, &[]),
+        Call::Build { text, .. } | Call::ToSteps { text } | Call::FromSteps { text } => (text, &[]),
         Call::Check { table } | Call::Read { table } | Call::Extract { table, .. } => (&[], table),
-        Call::Count { table, pattern } | Call::Locate { table, pattern } => (pattern, table),
+        Call::Count { table, pattern, .. } | Call::Locate { table, pattern, .. } => (pattern, table),
         Call::Cuts { pattern } => (pattern, &[]),
         Call::LyndonLength { table, .. } | Call::LyndonArray { table } | Call::ToSigned { table } => (&[], table),
     }

@@ -51,6 +51,7 @@ extern "C" {
     pub fn sirbolta_count(
         table: *const u32,
         table_len: usize,
+        form: u32,
         pattern: *const u8,
         pattern_len: usize,
         work: *mut u32,
@@ -59,6 +60,7 @@ extern "C" {
     pub fn sirbolta_locate(
         table: *const u32,
         table_len: usize,
+        form: u32,
         pattern: *const u8,
         pattern_len: usize,
         work: *mut u32,
@@ -84,4 +86,6 @@ extern "C" {
         result: *mut u32,
         result_len: usize,
     ) -> Reply;
+    pub fn sirbolta_to_steps(text: *const u8, text_len: usize, result: *mut u8, result_len: usize) -> Reply;
+    pub fn sirbolta_from_steps(text: *const u8, text_len: usize, result: *mut u8, result_len: usize) -> Reply;
 }

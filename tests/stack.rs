@@ -1,6 +1,6 @@
-//! Every service on the longest drives, in a thread with a stack of 512 KiB, and of 288 KiB for the 240 KiB that the library takes: equal samples, whose
-//! Lyndon tree is deep to the left; two whose tree is deep to the right, of which the rising one has the largest table; and one that is neither.
-//! Prints how many calls were right.
+//! Every service on the longest texts, in a thread with a stack of 512 KiB, and of 288 KiB for the 240 KiB that the library takes; those that take less than 4 KiB,
+//! all but reading back and locating, in one of 32 KiB too. The texts: equal samples, whose Lyndon tree is deep to the left; two whose tree is deep to the right,
+//! of which the rising one has the largest table; and one that is neither. Prints how many calls were right.
 
 mod former;
 mod library;
@@ -12,20 +12,37 @@ const CHAIR: u16 = 65535;
 
 fn main() {
     for size in [512, 288] {
-        let calls = std::thread::Builder::new().stack_size(size << 10).spawn(calls).unwrap().join().unwrap();
-        println!("stack: {calls} calls in {size} KiB");
+        println!("stack: {} calls in {size} KiB", within(size, |text| flat(text) + deep(text)));
     }
+    println!("stack: {} calls in 32 KiB, without reading back and locating", within(32, flat));
 }
 
-fn calls() -> usize {
+/// How many calls were right on a stack of so many KiB.
+fn within(size: usize, served: fn(&[u8]) -> usize) -> usize {
+    let calls = move || texts().iter().map(|text| served(text)).sum();
+    std::thread::Builder::new().stack_size(size << 10).spawn(calls).unwrap().join().unwrap()
+}
+
+fn texts() -> [Vec<u8>; 4] {
     let left = vec![b'a'; 2047];
     let mut right = left.clone();
     right[2046] = b'b';
     let rising: Vec<u8> = (0..2047i32).map(|i| (i / 8 - 128) as u8).collect();
     assert_eq!(table_of(&rising).len(), 4608);
     let neither = (0..2047u32).map(|i| (i * i * 40503 >> 7) as u8).collect();
-    let served = |text: &Vec<u8>| check_and_read(text) + extract(text) + search(text, 1) + search(text, 2) + cut(text) + longest(text) + convert(text);
-    [left, right, rising, neither].iter().map(served).sum()
+    [left, right, rising, neither]
+}
+
+/// The services that do not recurse.
+fn flat(text: &[u8]) -> usize {
+    let counts: usize = searches(text).map(count).iter().sum();
+    check(text) + extract(text) + counts + cut(text) + longest(text) + convert(text) + rearrange(text)
+}
+
+/// Those that do.
+fn deep(text: &[u8]) -> usize {
+    let lists: usize = searches(text).map(locate).iter().sum();
+    read(text) + lists
 }
 
 fn table_of(text: &[u8]) -> Vec<u32> {
@@ -38,17 +55,23 @@ fn table_of(text: &[u8]) -> Vec<u32> {
     table
 }
 
-fn check_and_read(text: &[u8]) -> usize {
+fn check(text: &[u8]) -> usize {
+    let table = table_of(text);
+    let mut work = vec![7u32; 16384];
+    let checked = unsafe { sirbolta_check(table.as_ptr(), table.len(), work.as_mut_ptr(), work.len()) };
+    assert_eq!((checked.number, checked.count as usize), (0, table.len() / 2));
+    1
+}
+
+fn read(text: &[u8]) -> usize {
     let table = table_of(text);
     let mut work = vec![7u32; 16384];
     let mut back = vec![7u8; 2047];
     let (w, n) = (work.as_mut_ptr(), work.len());
-    let checked = unsafe { sirbolta_check(table.as_ptr(), table.len(), w, n) };
-    assert_eq!((checked.number, checked.count as usize), (0, table.len() / 2));
     let read = unsafe { sirbolta_read(table.as_ptr(), table.len(), w, n, back.as_mut_ptr(), back.len()) };
     assert_eq!((read.number, read.chair, read.count), (0, CHAIR as u32, 2047));
     assert_eq!(back, text);
-    2
+    1
 }
 
 /// Extracts the whole drive, each half, the last sample and nothing at the end; one sample more is refused.
@@ -68,21 +91,54 @@ fn extract(text: &[u8]) -> usize {
     parts.len()
 }
 
-/// Counts and locates the drive's last samples, one or two of them. Two have one cut, which fits at the join of every pair rule.
-fn search(text: &[u8], samples: usize) -> usize {
-    let table = table_of(text);
-    let pattern = &text[text.len() - samples..];
-    let places: Vec<u32> = (0..=text.len() - samples).filter(|&i| text[i..].starts_with(pattern)).map(|i| i as u32).collect();
-    let tests = if samples == 1 { 0 } else { table.iter().filter(|&word| word >> 30 == 1).count() };
+/// A search by samples, form 0, or by steps, form 1: where the pattern is found, and the tests if they are known.
+struct Search {
+    table: Vec<u32>,
+    form: u32,
+    pattern: Vec<u8>,
+    places: Vec<u32>,
+    tests: Option<u64>,
+}
+
+/// The last one and two samples of the text; the last two, three and all of the drive that is rearranged to it, 9 added to each.
+fn searches(text: &[u8]) -> [Search; 5] {
+    let drive = restored(text);
+    let moved: Vec<u8> = drive.iter().map(|sample| sample.wrapping_add(9)).collect();
+    [(0, 1), (0, 2), (1, 2), (1, 3), (1, 2047)].map(|(form, samples)| {
+        let (searched, pattern) = if form == 0 { (text, text) } else { (&drive[..], &moved[..]) };
+        let pattern = &pattern[2047 - samples..];
+        let added = |i: usize| if form == 0 { 0 } else { searched[i].wrapping_sub(pattern[0]) };
+        let is_found = |&i: &usize| (0..samples).all(|j| searched[i + j] == pattern[j].wrapping_add(added(i)));
+        let places = (0..=2047 - samples).filter(is_found).map(|i| i as u32).collect();
+        let table = table_of(text);
+        // two samples or two steps have one cut, which fits at the join of every pair rule
+        let tests = match samples - form as usize {
+            1 => Some(0),
+            2 => Some(table.iter().filter(|&word| word >> 30 == 1).count() as u64),
+            _ => None,
+        };
+        Search { table, form, pattern: pattern.to_vec(), places, tests }
+    })
+}
+
+fn count(search: Search) -> usize {
+    let Search { table, form, pattern, places, tests } = search;
+    let mut work = vec![7u32; 16384];
+    let (t, m, w, n) = (table.as_ptr(), table.len(), work.as_mut_ptr(), work.len());
+    let counted = unsafe { sirbolta_count(t, m, form, pattern.as_ptr(), pattern.len(), w, n) };
+    assert_eq!((counted.number, counted.count as usize, tests.unwrap_or(counted.tests)), (0, places.len(), counted.tests));
+    1
+}
+
+fn locate(search: Search) -> usize {
+    let Search { table, form, pattern, places, tests } = search;
     let mut work = vec![7u32; 16384];
     let mut result = vec![7u32; places.len()];
     let (t, m, w, n) = (table.as_ptr(), table.len(), work.as_mut_ptr(), work.len());
-    let counted = unsafe { sirbolta_count(t, m, pattern.as_ptr(), samples, w, n) };
-    assert_eq!((counted.number, counted.count as usize, counted.tests as usize), (0, places.len(), tests));
-    let located = unsafe { sirbolta_locate(t, m, pattern.as_ptr(), samples, w, n, result.as_mut_ptr(), result.len()) };
-    assert_eq!((located.number, located.count as usize, located.tests as usize), (0, places.len(), tests));
+    let located = unsafe { sirbolta_locate(t, m, form, pattern.as_ptr(), pattern.len(), w, n, result.as_mut_ptr(), result.len()) };
+    assert_eq!((located.number, located.count as usize, tests.unwrap_or(located.tests)), (0, places.len(), located.tests));
     assert_eq!(result, places);
-    2
+    1
 }
 
 /// Lists the cuts of the whole drive, taken as a pattern.
@@ -143,6 +199,28 @@ fn convert(text: &[u8]) -> usize {
     assert_eq!((converted.number, converted.chair, converted.count as usize), (0, 0, k));
     assert_eq!(result, table);
     2
+}
+
+/// Restores the drive that is rearranged to the text, and rearranges it again.
+fn rearrange(text: &[u8]) -> usize {
+    let (mut drive, mut again) = (vec![7u8; 2047], vec![7u8; 2047]);
+    let back = unsafe { sirbolta_from_steps(text.as_ptr(), text.len(), drive.as_mut_ptr(), drive.len()) };
+    assert_eq!((back.number, back.count), (0, 2047));
+    assert_eq!(drive, restored(text));
+    let there = unsafe { sirbolta_to_steps(drive.as_ptr(), drive.len(), again.as_mut_ptr(), again.len()) };
+    assert_eq!((there.number, there.count), (0, 2047));
+    assert_eq!(again, text);
+    2
+}
+
+/// The drive that is rearranged to these steps: each sample is the sum of the entries up to it.
+fn restored(steps: &[u8]) -> Vec<u8> {
+    let mut sum = 0u8;
+    let add = |step: &u8| {
+        sum = sum.wrapping_add(*step);
+        sum
+    };
+    steps.iter().map(add).collect()
 }
 
 /// What samples mean.

@@ -1,10 +1,10 @@
 //! How many calls of each service were compared, and how many of these were refused, by number.
 
-use crate::calls::{Call, Outcome, SERVICES};
+use crate::calls::{Call, Outcome, REFUSALS, SERVICES};
 
 #[derive(Default)]
 pub struct Tally {
-    calls: [[usize; 10]; SERVICES.len()],
+    calls: [[usize; REFUSALS + 1]; SERVICES.len()],
 }
 
 impl Tally {
@@ -25,8 +25,8 @@ impl Tally {
     /// One line a service.
     pub fn print(&self) {
         for (service, calls) in SERVICES.iter().zip(&self.calls) {
-            let refused: Vec<String> = (1..10).filter(|&n| calls[n] > 0).map(|n| format!("{n}: {}", calls[n])).collect();
-            println!("  {service:13}{:7} calls, refused by {}", calls.iter().sum::<usize>(), refused.join(", "));
+            let refused: Vec<String> = (1..=REFUSALS).filter(|&n| calls[n] > 0).map(|n| format!("{n}: {}", calls[n])).collect();
+            println!("  {service:15}{:7} calls, refused by {}", calls.iter().sum::<usize>(), refused.join(", "));
         }
     }
 }

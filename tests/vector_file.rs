@@ -52,7 +52,7 @@ fn items<'a>(lines: &[&'a str]) -> Result<Items<'a>, String> {
 }
 
 fn test(mut items: Items) -> Result<Test, String> {
-    if take(&mut items, "stage")? != "5" {
+    if take(&mut items, "stage")? != "6" {
         return Err("an unknown stage".into());
     }
     let test = match take(&mut items, "call")? {
@@ -82,14 +82,21 @@ fn call(service: &str, items: &mut Items) -> Result<Call, String> {
             Call::Build { text: entries(take(items, "arg drive")?)?, chair }
         }
         "cuts" => Call::Cuts { pattern: entries(take(items, "arg motif")?)? },
+        "rearrange" => {
+            let text = entries(take(items, "arg drive")?)?;
+            match bit(take(items, "arg inverse")?)? {
+                0 => Call::ToSteps { text },
+                _ => Call::FromSteps { text },
+            }
+        }
         _ => {
             let table: Vec<u32> = entries(take(items, "arg table")?)?;
             match service {
                 "check" => Call::Check { table },
                 "read" => Call::Read { table },
                 "part" => Call::Extract { table, start: number(items, "arg start")?, length: number(items, "arg length")? },
-                "count" => Call::Count { table, pattern: entries(take(items, "arg motif")?)? },
-                "list" => Call::Locate { table, pattern: entries(take(items, "arg motif")?)? },
+                "count" => Call::Count { table, form: form(items)?, pattern: entries(take(items, "arg motif")?)? },
+                "list" => Call::Locate { table, form: form(items)?, pattern: entries(take(items, "arg motif")?)? },
                 "longest" => Call::LyndonLength { table, position: number(items, "arg position")? },
                 "longest_all" => Call::LyndonArray { table },
                 "convert_order" => Call::ToSigned { table },
@@ -99,17 +106,21 @@ fn call(service: &str, items: &mut Items) -> Result<Call, String> {
     })
 }
 
+fn form(items: &mut Items) -> Result<u32, String> {
+    Ok(bit(take(items, "arg steps")?)? * STEPS)
+}
+
 /// The unit of the service's result slice, if it has one.
 fn unit(call: &Call) -> Option<&'static str> {
     match call {
         Call::Build { .. } | Call::Locate { .. } | Call::Cuts { .. } | Call::LyndonArray { .. } | Call::ToSigned { .. } => Some("words"),
-        Call::Read { .. } | Call::Extract { .. } => Some("bytes"),
+        Call::Read { .. } | Call::Extract { .. } | Call::ToSteps { .. } | Call::FromSteps { .. } => Some("bytes"),
         Call::Check { .. } | Call::Count { .. } | Call::LyndonLength { .. } => None,
     }
 }
 
 fn has_work(call: &Call) -> bool {
-    !matches!(call, Call::Cuts { .. })
+    !matches!(call, Call::Cuts { .. } | Call::ToSteps { .. } | Call::FromSteps { .. })
 }
 
 fn lent(call: &Call, items: &mut Items) -> Result<Slices, String> {
@@ -171,6 +182,14 @@ fn take<'a>(items: &mut Items<'a>, name: &str) -> Result<&'a str, String> {
 
 fn number_of<T: FromStr>(digits: &str) -> Result<T, String> {
     digits.parse().map_err(|_| format!("no number: {digits:.40}"))
+}
+
+fn bit(digit: &str) -> Result<u32, String> {
+    match digit {
+        "0" => Ok(0),
+        "1" => Ok(1),
+        _ => Err(format!("neither 0 nor 1: {digit:.40}")),
+    }
 }
 
 /// Entries written as LEN/OFF:HEX;OFF:HEX, all 0 but the runs.

@@ -20,7 +20,7 @@ int main(void) {
     sirbolta_reply reading = sirbolta_read(table, words, work, WORK, drive, SAMPLES);
     printf("chair %" PRIu32 ", %" PRIu64 " samples\n", reading.chair, reading.count);
 
-    sirbolta_search_reply found = sirbolta_locate(table, words, abab, 2, work, WORK, positions, SAMPLES);
+    sirbolta_search_reply found = sirbolta_locate(table, words, 0, abab, 2, work, WORK, positions, SAMPLES);
     printf("ab begins at");
     for (uint64_t i = 0; i < found.count; i++) printf("%s%" PRIu32, i ? ", " : " [", positions[i]);
     printf("]\n%" PRIu64 " tests\n", found.tests);

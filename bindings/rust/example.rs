@@ -2,7 +2,7 @@
 
 mod sirbolta;
 
-use sirbolta::{Refusal, SAMPLES, TABLE, WORK};
+use sirbolta::{Content, Refusal, SAMPLES, TABLE, WORK};
 
 fn main() -> Result<(), Refusal> {
     let mut work = vec![0; WORK];
@@ -16,7 +16,7 @@ fn main() -> Result<(), Refusal> {
     println!("chair {}, {} samples", reading.chair, reading.samples);
 
     let mut positions = vec![0; SAMPLES];
-    let found = sirbolta::locate_with_tests(table, b"ab", &mut work, &mut positions)?;
+    let found = sirbolta::locate_with_tests(table, Content::Samples, b"ab", &mut work, &mut positions)?;
     println!("ab begins at {:?}", &positions[..found.count]);
     println!("{} tests", found.tests);
 

@@ -4,13 +4,18 @@
 //! is `count_with_tests` or `locate_with_tests`.
 //!
 //! The work slice needs `WORK` words, the result slice as many entries as the result has; what they held before plays no part. On success the result
-//! stands at the front of the result slice and the rest is as it was; after a refusal all of it is as it was. The work slice is as it was after the
-//! refusals 1 to 6; after the others and success its first `WORK` words are 0 and the rest is as it was. Reading back and locating take up to
-//! 240 KiB of stack, every other service less than 2 KiB: a thread that reads back or locates wants a stack above that, as Rust's own have.
+//! stands at the front of the result slice and the rest is as it was; after a refusal all of it is as it was. The work slice is as it was after
+//! `WorkTooShort`, `TableLength`, `BadWord` and any refusal whose check comes before these; after the others and success its first `WORK` words are 0 and
+//! the rest is as it was. Reading back and locating take up to 240 KiB of stack, every other service less than 4 KiB: a thread that reads back or locates
+//! wants a stack above that, as Rust's own have.
 //!
 //! Samples are compared as signed numbers, a byte of 128 or more meaning itself minus 256. A former table is one that was built while they were compared as
 //! unsigned numbers. `to_signed` takes former tables and no others; to every other function they are `NotATable`, unless all samples of the text are below 128
 //! or none is: the two orders then give the same table.
+//!
+//! A drive may be rearranged to steps before its table is built: the first sample is kept, and each later one becomes a step, its difference from the one before,
+//! modulo 256. The table does not say that it holds steps; the caller says so, by `Content`, to the functions that search. Every other function takes the text as
+//! it stands.
 //!
 //! A program with a library of another interface number ends before `main` and says so.
 #![allow(dead_code)]
@@ -18,7 +23,7 @@
 use std::fmt;
 
 /// The number of the interface that this module is made for.
-pub const INTERFACE: u32 = 2;
+pub const INTERFACE: u32 = 3;
 
 /// The words that a work slice needs.
 pub const WORK: usize = 16_384;
@@ -31,6 +36,17 @@ pub const TABLE: usize = 4_608;
 
 /// The most cuts that `live_cuts` writes.
 pub const CUTS: usize = 11;
+
+/// What a table holds, as the caller of a search says.
+#[derive(Clone, Copy, Debug, PartialEq, Eq)]
+pub enum Content {
+    /// The samples of a drive as it was recorded.
+    Samples,
+    /// What `to_steps` writes. A pattern of m samples is then searched by its m - 1 steps, and found at each position of the drive, as it was before it was
+    /// rearranged, from which the same steps follow: in 5, 7, 9, 3, 5 the pattern 0, 2 is found at 0, 1 and 3. The kept first sample is never a step. Cuts and
+    /// tests are those of the m - 1 steps, taken as a pattern.
+    Steps,
+}
 
 /// Why a service refuses: the first check that is met.
 #[derive(Clone, Copy, Debug, PartialEq, Eq)]
@@ -51,6 +67,8 @@ pub enum Refusal {
         /// How many entries the result has.
         needed: usize,
     },
+    /// It comes behind `PatternTooLong` and before `WorkTooShort`.
+    NoStep,
 }
 
 /// A text read back: how many samples were written, and the chair number.
@@ -97,26 +115,26 @@ pub fn extract(table: &[u32], start: usize, length: usize, work: &mut [u32], res
     counted(unsafe { sirbolta_extract(table.as_ptr(), table.len(), start, length, w, n, r, m) })
 }
 
-/// How often the pattern begins in the text, overlapping occurrences included.
-pub fn count(table: &[u32], pattern: &[u8], work: &mut [u32]) -> Result<usize, Refusal> {
-    count_with_tests(table, pattern, work).map(|search| search.count)
+/// How often the pattern begins in the text or, where the table holds steps, is found in the drive, overlapping occurrences included.
+pub fn count(table: &[u32], content: Content, pattern: &[u8], work: &mut [u32]) -> Result<usize, Refusal> {
+    count_with_tests(table, content, pattern, work).map(|search| search.count)
 }
 
 /// The same, and how many tests the search made.
-pub fn count_with_tests(table: &[u32], pattern: &[u8], work: &mut [u32]) -> Result<Search, Refusal> {
+pub fn count_with_tests(table: &[u32], content: Content, pattern: &[u8], work: &mut [u32]) -> Result<Search, Refusal> {
     let (p, k, w, n) = (pattern.as_ptr(), pattern.len(), work.as_mut_ptr(), work.len());
-    searched(unsafe { sirbolta_count(table.as_ptr(), table.len(), p, k, w, n) })
+    searched(unsafe { sirbolta_count(table.as_ptr(), table.len(), content.form(), p, k, w, n) })
 }
 
-/// Writes the positions at which the pattern begins in the text, rising, and answers how many there are.
-pub fn locate(table: &[u32], pattern: &[u8], work: &mut [u32], result: &mut [u32]) -> Result<usize, Refusal> {
-    locate_with_tests(table, pattern, work, result).map(|search| search.count)
+/// Writes the positions at which the pattern begins in the text or, where the table holds steps, is found in the drive, rising, and answers how many there are.
+pub fn locate(table: &[u32], content: Content, pattern: &[u8], work: &mut [u32], result: &mut [u32]) -> Result<usize, Refusal> {
+    locate_with_tests(table, content, pattern, work, result).map(|search| search.count)
 }
 
 /// The same, and how many tests the search made.
-pub fn locate_with_tests(table: &[u32], pattern: &[u8], work: &mut [u32], result: &mut [u32]) -> Result<Search, Refusal> {
+pub fn locate_with_tests(table: &[u32], content: Content, pattern: &[u8], work: &mut [u32], result: &mut [u32]) -> Result<Search, Refusal> {
     let (p, k, w, n) = (pattern.as_ptr(), pattern.len(), work.as_mut_ptr(), work.len());
-    searched(unsafe { sirbolta_locate(table.as_ptr(), table.len(), p, k, w, n, result.as_mut_ptr(), result.len()) })
+    searched(unsafe { sirbolta_locate(table.as_ptr(), table.len(), content.form(), p, k, w, n, result.as_mut_ptr(), result.len()) })
 }
 
 /// Writes the live cuts of the pattern that a search tries, rising, at most `CUTS`, and answers how many there are.
@@ -147,6 +165,25 @@ pub fn to_signed(table: &[u32], work: &mut [u32], result: &mut [u32]) -> Result<
     counted(unsafe { sirbolta_to_signed(table.as_ptr(), table.len(), w, n, r, m) })
 }
 
+/// Writes a drive rearranged to steps, its first sample and then the step to each later one, and answers how many samples it has.
+pub fn to_steps(drive: &[u8], result: &mut [u8]) -> Result<usize, Refusal> {
+    counted(unsafe { sirbolta_to_steps(drive.as_ptr(), drive.len(), result.as_mut_ptr(), result.len()) })
+}
+
+/// Writes the drive that `to_steps` rearranges to these steps, and answers how many samples it has.
+pub fn from_steps(steps: &[u8], result: &mut [u8]) -> Result<usize, Refusal> {
+    counted(unsafe { sirbolta_from_steps(steps.as_ptr(), steps.len(), result.as_mut_ptr(), result.len()) })
+}
+
+impl Content {
+    fn form(self) -> u32 {
+        match self {
+            Content::Samples => 0,
+            Content::Steps => 1,
+        }
+    }
+}
+
 impl Refusal {
     /// The refusal's number.
     pub fn number(self) -> u32 {
@@ -160,6 +197,7 @@ impl Refusal {
             Refusal::NotATable => 7,
             Refusal::RangePastEnd => 8,
             Refusal::ResultTooShort { .. } => 9,
+            Refusal::NoStep => 10,
         }
     }
 
@@ -183,6 +221,7 @@ impl Refusal {
             7 => Refusal::NotATable,
             8 => Refusal::RangePastEnd,
             9 => Refusal::ResultTooShort { needed: place },
+            10 => Refusal::NoStep,
             _ => unreachable!("the library has no refusal {number}"),
         }
     }
@@ -201,6 +240,7 @@ impl fmt::Display for Refusal {
             Refusal::NotATable => write!(f, "no text and chair number has this table, in the order by which it is judged"),
             Refusal::RangePastEnd => write!(f, "the range or position reaches past the end of the text"),
             Refusal::ResultTooShort { needed } => write!(f, "the result slice is too short, {needed} entries are needed"),
+            Refusal::NoStep => write!(f, "the pattern has one sample, so no step by which to search a table that holds steps"),
         }
     }
 }
@@ -258,10 +298,12 @@ unsafe extern "C" {
     fn sirbolta_check(table: *const u32, table_len: usize, work: *mut u32, work_len: usize) -> Reply;
     fn sirbolta_read(table: *const u32, table_len: usize, work: *mut u32, work_len: usize, result: *mut u8, result_len: usize) -> Reply;
     fn sirbolta_extract(table: *const u32, table_len: usize, start: usize, length: usize, work: *mut u32, work_len: usize, result: *mut u8, result_len: usize) -> Reply;
-    fn sirbolta_count(table: *const u32, table_len: usize, pattern: *const u8, pattern_len: usize, work: *mut u32, work_len: usize) -> SearchReply;
-    fn sirbolta_locate(table: *const u32, table_len: usize, pattern: *const u8, pattern_len: usize, work: *mut u32, work_len: usize, result: *mut u32, result_len: usize) -> SearchReply;
+    fn sirbolta_count(table: *const u32, table_len: usize, form: u32, pattern: *const u8, pattern_len: usize, work: *mut u32, work_len: usize) -> SearchReply;
+    fn sirbolta_locate(table: *const u32, table_len: usize, form: u32, pattern: *const u8, pattern_len: usize, work: *mut u32, work_len: usize, result: *mut u32, result_len: usize) -> SearchReply;
     fn sirbolta_live_cuts(pattern: *const u8, pattern_len: usize, result: *mut u32, result_len: usize) -> Reply;
     fn sirbolta_lyndon_length(table: *const u32, table_len: usize, position: usize, work: *mut u32, work_len: usize) -> Reply;
     fn sirbolta_lyndon_array(table: *const u32, table_len: usize, work: *mut u32, work_len: usize, result: *mut u32, result_len: usize) -> Reply;
     fn sirbolta_to_signed(table: *const u32, table_len: usize, work: *mut u32, work_len: usize, result: *mut u32, result_len: usize) -> Reply;
+    fn sirbolta_to_steps(text: *const u8, text_len: usize, result: *mut u8, result_len: usize) -> Reply;
+    fn sirbolta_from_steps(text: *const u8, text_len: usize, result: *mut u8, result_len: usize) -> Reply;
 }

@@ -1,4 +1,4 @@
-//! Document 01 and requests S-1 to S-5 of document 02 once more, slow and plain, for comparison. Nothing is shared with the library, and definitions are
+//! Document 01 and requests S-1 to S-6 of document 02 once more, slow and plain, for comparison. Nothing is shared with the library, and definitions are
 //! followed as they are worded, but for two:
 //!
 //! - Above 64 symbols `Common` stands in for the wording of the standard factorization, of listed cuts and of the longest Lyndon words, which takes
@@ -8,9 +8,11 @@
 
 mod order;
 mod services;
+mod steps;
 mod tables;
 mod words;
 
 pub use order::Order;
 pub use services::Naive;
+pub use steps::{from_steps, to_steps};
 pub use tables::table_of;

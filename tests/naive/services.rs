@@ -1,6 +1,7 @@
-//! What each service answers and leaves in the slices: of the refusals that concern it, the lowest number that is met.
+//! What each service answers and leaves in the slices: of its checks, the first that is met decides.
 
 use super::order::Order;
+use super::steps::{finds_by_steps, from_steps, steps_of, to_steps};
 use super::tables::{bad_word, drive_of, halves, table_of};
 use super::words::{listed_cuts, lyndon_array, occurrences};
 use crate::calls::*;
@@ -56,31 +57,22 @@ enum Written {
 impl Naive {
     /// What the call answers and leaves.
     pub fn answer(&mut self, call: &Call, lent: &Slices) -> (Outcome, Slices) {
-        for number in (1..=8).filter(|&number| concerns(call, number)) {
+        for (number, clears) in checks(call) {
             if let Some(place) = self.met(call, number, lent) {
-                let left = if number < 7 { lent.clone() } else { cleared(lent) };
+                let left = if clears { cleared(lent) } else { lent.clone() };
                 return (refusal(number, place), left);
             }
         }
-        let written = self.written(call);
         let mut left = cleared(lent);
-        let (needed, there) = match &written {
-            Written::Nothing => (0, 0),
-            Written::Words(words) => (words.len(), left.words.len()),
-            Written::Bytes(bytes) => (bytes.len(), left.bytes.len()),
+        let entries = match self.written(call) {
+            Written::Nothing => 0,
+            Written::Words(words) => put(&words, &mut left.words),
+            Written::Bytes(bytes) => put(&bytes, &mut left.bytes),
         };
-        if there < needed {
-            return (refusal(9, needed), left);
-        }
-        match written {
-            Written::Nothing => {}
-            Written::Words(words) => left.words[..needed].copy_from_slice(&words),
-            Written::Bytes(bytes) => left.bytes[..needed].copy_from_slice(&bytes),
-        }
-        (self.success(call, needed), left)
+        (self.success(call, entries), left)
     }
 
-    /// Whether refusal `number` is met, and with which place; asked only where no lower one is.
+    /// Whether refusal `number` is met, and with which place; asked only where no earlier one is.
     fn met(&mut self, call: &Call, number: u32, lent: &Slices) -> Option<usize> {
         let met = match number {
             1 => text(call).len() > 2047,
@@ -93,11 +85,21 @@ impl Naive {
                 _ => false,
             },
             7 => matches!(self.verdict(call), Verdict::Foreign),
-            _ => match call {
+            8 => match call {
                 Call::Extract { start, length, .. } => *start as u128 + *length as u128 > self.drive(call).len() as u128,
                 Call::LyndonLength { position, .. } => *position >= self.drive(call).len(),
                 _ => false,
             },
+            9 => {
+                let (needed, there) = match self.written(call) {
+                    Written::Nothing => (0, 0),
+                    Written::Words(words) => (words.len(), lent.words.len()),
+                    Written::Bytes(bytes) => (bytes.len(), lent.bytes.len()),
+                };
+                return (there < needed).then_some(needed);
+            }
+            10 => call.by_steps() && pattern(call).len() == 1,
+            _ => unreachable!("no refusal {number}"),
         };
         met.then_some(0)
     }
@@ -107,7 +109,7 @@ impl Naive {
     fn success(&mut self, call: &Call, entries: usize) -> Outcome {
         let (count, chair) = match call {
             Call::Check { table } => (table.len() / 2, 0),
-            Call::Count { pattern, .. } => (occurrences(pattern, &self.drive(call)).len(), 0),
+            Call::Count { .. } => (self.finds(call).len(), 0),
             Call::LyndonLength { position, .. } => (self.lyndon_array(call)[*position], 0),
             Call::Read { .. } => (entries, self.chair(call)),
             _ => (entries, 0),
@@ -116,12 +118,22 @@ impl Naive {
     }
 
     /// How many pairs there are of a pair rule and a listed cut, where the left half has at least as many symbols as the pattern has before the cut, and the right
-    /// half at least as many as it has from the cut on.
+    /// half at least as many as it has from the cut on. A search by steps has the pattern's steps as its pattern.
     fn tests(&mut self, call: &Call) -> usize {
-        let (Call::Count { table, pattern } | Call::Locate { table, pattern }) = call else { return 0 };
-        let cuts = self.listed_cuts(pattern);
+        let (Call::Count { table, pattern, .. } | Call::Locate { table, pattern, .. }) = call else { return 0 };
+        let pattern = if call.by_steps() { steps_of(pattern) } else { pattern.clone() };
+        let cuts = self.listed_cuts(&pattern);
         let fits = |(left, right): (usize, usize)| cuts.iter().filter(|&&cut| left >= cut && right >= pattern.len() - cut).count();
         halves(table).into_iter().map(fits).sum()
+    }
+
+    /// The positions that a search finds: by steps, in the drive that was rearranged.
+    fn finds(&mut self, call: &Call) -> Vec<usize> {
+        let text = self.drive(call);
+        match call.by_steps() {
+            true => finds_by_steps(pattern(call), &from_steps(&text)),
+            false => occurrences(pattern(call), &text),
+        }
     }
 
     /// How many samples the drive has in which a search is done.
@@ -134,18 +146,20 @@ impl Naive {
             Call::Build { text, chair } => Written::Words(self.build(text, *chair)),
             Call::Read { .. } => Written::Bytes(self.drive(call)),
             Call::Extract { start, length, .. } => Written::Bytes(self.drive(call)[*start..*start + *length].to_vec()),
-            Call::Locate { pattern, .. } => Written::Words(as_words(&occurrences(pattern, &self.drive(call)))),
+            Call::Locate { .. } => Written::Words(as_words(&self.finds(call))),
             Call::Cuts { pattern } => Written::Words(as_words(&self.listed_cuts(pattern))),
             Call::LyndonArray { .. } => Written::Words(as_words(&self.lyndon_array(call))),
             Call::ToSigned { .. } => {
                 let (drive, chair) = (self.drive(call), self.chair(call));
                 Written::Words(self.build(&drive, chair))
             }
+            Call::ToSteps { text } => Written::Bytes(to_steps(text)),
+            Call::FromSteps { text } => Written::Bytes(from_steps(text)),
             Call::Check { .. } | Call::Count { .. } | Call::LyndonLength { .. } => Written::Nothing,
         }
     }
 
-    /// The drive of the call's table, which is accepted.
+    /// The drive of the call's table, which is accepted; where the table holds steps, the drive rearranged.
     fn drive(&mut self, call: &Call) -> Vec<u8> {
         match self.verdict(call) {
             Verdict::Drive(text, _) => text,
@@ -183,26 +197,37 @@ impl Naive {
     }
 }
 
-/// Whether a refusal from 1 to 8 concerns the service; 9 concerns whatever writes a result.
-fn concerns(call: &Call, number: u32) -> bool {
-    match number {
-        1 => matches!(call, Call::Build { .. }),
-        2 | 3 => matches!(call, Call::Count { .. } | Call::Locate { .. } | Call::Cuts { .. }),
-        4 => !matches!(call, Call::Cuts { .. }),
-        5..=7 => !matches!(call, Call::Build { .. } | Call::Cuts { .. }),
-        _ => matches!(call, Call::Extract { .. } | Call::LyndonLength { .. }),
-    }
+/// The refusals that concern the service, in the order of its checks, and whether each clears the work slice: first those that leave it as it was.
+fn checks(call: &Call) -> impl Iterator<Item = (u32, bool)> {
+    let (leave, clear): (&[u32], &[u32]) = match call {
+        Call::Build { .. } => (&[1, 4], &[9]),
+        Call::Check { .. } => (&[4, 5, 6], &[7]),
+        Call::Read { .. } | Call::LyndonArray { .. } | Call::ToSigned { .. } => (&[4, 5, 6], &[7, 9]),
+        Call::Extract { .. } => (&[4, 5, 6], &[7, 8, 9]),
+        Call::LyndonLength { .. } => (&[4, 5, 6], &[7, 8]),
+        Call::Count { .. } => (&[2, 3, 10, 4, 5, 6], &[7]),
+        Call::Locate { .. } => (&[2, 3, 10, 4, 5, 6], &[7, 9]),
+        Call::Cuts { .. } => (&[2, 3, 9], &[]),
+        Call::ToSteps { .. } | Call::FromSteps { .. } => (&[1, 9], &[]),
+    };
+    leave.iter().map(|&number| (number, false)).chain(clear.iter().map(|&number| (number, true)))
 }
 
 fn refusal(number: u32, place: usize) -> Outcome {
     Outcome { number, place: place as u64, count: 0, chair: 0, tests: 0 }
 }
 
-/// The slices with the first 16,384 words of the work slice zero; the listing of cuts takes no work slice.
+/// The slices with the first 16,384 words of the work slice zero.
 fn cleared(lent: &Slices) -> Slices {
     let mut left = lent.clone();
     left.work.iter_mut().take(16384).for_each(|word| *word = 0);
     left
+}
+
+/// Writes entries to the front of a slice, and answers how many they are.
+fn put<T: Copy>(entries: &[T], slice: &mut [T]) -> usize {
+    slice[..entries.len()].copy_from_slice(entries);
+    entries.len()
 }
 
 fn as_words(numbers: &[usize]) -> Vec<u32> {
@@ -211,7 +236,7 @@ fn as_words(numbers: &[usize]) -> Vec<u32> {
 
 fn text(call: &Call) -> &[u8] {
     match call {
-        Call::Build { text, .. } => text,
+        Call::Build { text, .. } | Call::ToSteps { text } | Call::FromSteps { text } => text,
         _ => &[],
     }
 }
@@ -225,7 +250,7 @@ fn pattern(call: &Call) -> &[u8] {
 
 fn table(call: &Call) -> &[u32] {
     match call {
-        Call::Build { .. } | Call::Cuts { .. } => &[],
+        Call::Build { .. } | Call::Cuts { .. } | Call::ToSteps { .. } | Call::FromSteps { .. } => &[],
         Call::Check { table } | Call::Read { table } | Call::Extract { table, .. } => table,
         Call::Count { table, .. } | Call::Locate { table, .. } | Call::LyndonLength { table, .. } => table,
         Call::LyndonArray { table } | Call::ToSigned { table } => table,

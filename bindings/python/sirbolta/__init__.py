@@ -5,8 +5,17 @@
     >>> table.locate(b"ab")
     [0, 2]
 
-A text is a drive: at most 2,047 samples of one byte. A pattern is 1 to 2,047 samples. Both are bytes, or any buffer of single bytes. Samples are compared
-as signed numbers, a byte of 128 or more meaning itself minus 256.
+A text is a drive, as it was recorded or rearranged: at most 2,047 samples of one byte. A pattern is 1 to 2,047 samples. Both are bytes, or any buffer of
+single bytes. Samples are compared as signed numbers, a byte of 128 or more meaning itself minus 256.
+
+A drive may be rearranged to steps before its table is built: the first sample is kept, and each later one becomes a step, its difference from the one
+before, modulo 256. The table does not say that it holds steps; the caller says so, by `steps=True`, to the functions that search. A pattern of m samples is
+then searched by its m - 1 steps, and found at each position of the drive, as it was before it was rearranged, from which the same steps follow. The kept
+first sample is never a step. Cuts and tests are those of the m - 1 steps, taken as a pattern. Every other function takes the text as it stands.
+
+    >>> table = sirbolta.build(sirbolta.to_steps(bytes([5, 7, 9, 3, 5])), chair=40)
+    >>> table.locate(bytes([0, 2]), steps=True)
+    [0, 1, 3]
 
 A table is a `Table`, which `build` and `to_signed` answer, or any buffer with a table's words: single bytes, four a word and the lowest first, or unsigned
 words of 32 bits. It is read where it stands; only where its words are not aligned to four bytes, or stand apart, it is copied. A sequence of whole numbers
@@ -39,7 +48,8 @@ from typing import TYPE_CHECKING, Any, NoReturn, SupportsIndex, Union
 from ._native import INTERFACE, WORK as _WORK, Reply as _Reply, SearchReply as _SearchReply
 from ._native import enough_stack as _enough_stack, library as _library, work as _work
 from .refusals import (
-    BadWord, NotATable, PatternEmpty, PatternTooLong, RangePastEnd, Refusal, ResultTooShort, TableLength, TextTooLong, WorkTooShort, refusal as _refusal,
+    BadWord, NoStep, NotATable, PatternEmpty, PatternTooLong, RangePastEnd, Refusal, ResultTooShort, TableLength, TextTooLong, WorkTooShort,
+    refusal as _refusal,
 )
 
 if TYPE_CHECKING:
@@ -49,8 +59,9 @@ else:
 
 __all__ = [
     "INTERFACE", "Table", "build", "check", "read", "extract", "count", "count_with_tests", "count_each", "locate", "locate_with_tests", "live_cuts",
-    "lyndon_length", "lyndon_array", "to_signed",
+    "lyndon_length", "lyndon_array", "to_signed", "to_steps", "from_steps",
     "Refusal", "TextTooLong", "PatternEmpty", "PatternTooLong", "WorkTooShort", "TableLength", "BadWord", "NotATable", "RangePastEnd", "ResultTooShort",
+    "NoStep",
 ]
 
 Samples = Buffer
@@ -106,21 +117,21 @@ class Table:
         """A part of its text: `sirbolta.extract`."""
         return extract(self, start, length)
 
-    def count(self, pattern: Samples) -> int:
-        """How often the pattern begins in its text: `sirbolta.count`."""
-        return count(self, pattern)
+    def count(self, pattern: Samples, *, steps: bool = False) -> int:
+        """How often the pattern is found: `sirbolta.count`."""
+        return count(self, pattern, steps=steps)
 
-    def count_with_tests(self, pattern: Samples) -> tuple[int, int]:
+    def count_with_tests(self, pattern: Samples, *, steps: bool = False) -> tuple[int, int]:
         """The same, and how many tests the search made: `sirbolta.count_with_tests`."""
-        return count_with_tests(self, pattern)
+        return count_with_tests(self, pattern, steps=steps)
 
-    def locate(self, pattern: Samples) -> list[int]:
-        """The positions at which the pattern begins in its text: `sirbolta.locate`."""
-        return locate(self, pattern)
+    def locate(self, pattern: Samples, *, steps: bool = False) -> list[int]:
+        """The positions at which the pattern is found: `sirbolta.locate`."""
+        return locate(self, pattern, steps=steps)
 
-    def locate_with_tests(self, pattern: Samples) -> tuple[list[int], int]:
+    def locate_with_tests(self, pattern: Samples, *, steps: bool = False) -> tuple[list[int], int]:
         """The same, and how many tests the search made: `sirbolta.locate_with_tests`."""
-        return locate_with_tests(self, pattern)
+        return locate_with_tests(self, pattern, steps=steps)
 
     def lyndon_length(self, position: int) -> int:
         """The length of the longest Lyndon word that begins at a position of its text: `sirbolta.lyndon_length`."""
@@ -209,17 +220,20 @@ def extract(table: Words, start: int, length: int) -> bytes:
     return ctypes.string_at(result, _counted(_reply_to(table, _library.sirbolta_extract, start, length, _work(), _WORK, result, _SAMPLES)))
 
 
-def count(table: Words, pattern: Samples) -> int:
-    """How often the pattern begins in the text, overlapping occurrences included. Refusals: PatternEmpty, PatternTooLong, those of `check`.
+def count(table: Words, pattern: Samples, *, steps: bool = False) -> int:
+    """How often the pattern begins in the text or, where the table holds steps, is found in the drive, overlapping occurrences included. Refusals: PatternEmpty,
+    PatternTooLong, NoStep, those of `check`.
 
     >>> count(build(b"aaaa", chair=40), b"aa")
     3
+    >>> count(build(to_steps(b"abac"), chair=40), b"xy", steps=True)
+    1
     """
-    return count_with_tests(table, pattern)[0]
+    return count_with_tests(table, pattern, steps=steps)[0]
 
 
-def count_with_tests(table: Words, pattern: Samples) -> tuple[int, int]:
-    """How often the pattern begins in the text, as `count` says, and how many tests the search made.
+def count_with_tests(table: Words, pattern: Samples, *, steps: bool = False) -> tuple[int, int]:
+    """How often the pattern is found, as `count` says, and how many tests the search made.
 
     A test is a pair rule of the table, one with a left and a right half, together with a cut of the pattern that `live_cuts` lists, where the left half has at
     least as many symbols as the pattern has samples before the cut, and the right half at least as many as it has from the cut on. Symbols are the samples and the
@@ -229,25 +243,26 @@ def count_with_tests(table: Words, pattern: Samples) -> tuple[int, int]:
     >>> count_with_tests(build(b"abab", chair=40), b"ab")
     (2, 3)
     """
-    samples = _samples(pattern)
-    reply = _reply_to(table, _library.sirbolta_count, samples, len(samples), _work(), _WORK)
+    samples, form = _samples(pattern), _form(steps)
+    reply = _reply_to(table, _library.sirbolta_count, form, samples, len(samples), _work(), _WORK)
     return _counted(reply), reply.tests
 
 
-def count_each(tables: Iterable[Words], pattern: Samples) -> list[int]:
-    """How often the pattern begins in the text of each table: `count` of each in turn, a hundred by one call of the library. A table that is neither a `Table` nor
-    bytes is copied. It answers counts alone, without the tests. Refusals: that of the first table which is refused; its `table` is the index of this table.
+def count_each(tables: Iterable[Words], pattern: Samples, *, steps: bool = False) -> list[int]:
+    """How often the pattern is found in each table: `count` of each in turn, a hundred by one call of the library; all hold samples, or all hold steps. A table that
+    is neither a `Table` nor bytes is copied. It answers counts alone, without the tests. Refusals: that of the first table which is refused; its `table` is the index
+    of this table.
 
     >>> count_each([build(b"aaaa", chair=40), build(b"abab", chair=40)], b"aa")
     [3, 0]
     """
-    samples, rest = _samples(pattern), iter(tables)
+    samples, form, rest = _samples(pattern), _form(steps), iter(tables)
     counts: list[int] = []
     while True:
         words, error = _gathered(rest)
         number = len(words)
         starts, lengths, replies = (ctypes.c_char_p * number)(*words), (ctypes.c_size_t * number)(*[len(each) // 4 for each in words]), (_SearchReply * number)()
-        _library.sirbolta_count_each(starts, lengths, number, samples, len(samples), _work(), _WORK, replies)
+        _library.sirbolta_count_each(starts, lengths, number, form, samples, len(samples), _work(), _WORK, replies)
         for reply in replies:
             if reply.number:
                 raise _refusal(reply.number, reply.place, len(counts))
@@ -261,24 +276,26 @@ def count_each(tables: Iterable[Words], pattern: Samples) -> list[int]:
             return counts
 
 
-def locate(table: Words, pattern: Samples) -> list[int]:
-    """The positions at which the pattern begins in the text, rising, each once. Refusals: those of `count`.
+def locate(table: Words, pattern: Samples, *, steps: bool = False) -> list[int]:
+    """The positions at which the pattern begins in the text or, where the table holds steps, is found in the drive, rising, each once. Refusals: those of `count`.
 
     >>> locate(build(b"aaaa", chair=40), b"aa")
     [0, 1, 2]
+    >>> locate(build(to_steps(b"abac"), chair=40), b"yx", steps=True)
+    [1]
     """
-    return locate_with_tests(table, pattern)[0]
+    return locate_with_tests(table, pattern, steps=steps)[0]
 
 
-def locate_with_tests(table: Words, pattern: Samples) -> tuple[list[int], int]:
-    """The positions at which the pattern begins in the text, as `locate` lists them, and how many tests the search made, as `count_with_tests` says.
+def locate_with_tests(table: Words, pattern: Samples, *, steps: bool = False) -> tuple[list[int], int]:
+    """The positions at which the pattern is found, as `locate` lists them, and how many tests the search made, as `count_with_tests` says.
 
     >>> locate_with_tests(build(b"abab", chair=40), b"ab")
     ([0, 2], 3)
     """
     _enough_stack()
-    samples, result = _samples(pattern), _Numbers()
-    reply = _reply_to(table, _library.sirbolta_locate, samples, len(samples), _work(), _WORK, result, _SAMPLES)
+    samples, form, result = _samples(pattern), _form(steps), _Numbers()
+    reply = _reply_to(table, _library.sirbolta_locate, form, samples, len(samples), _work(), _WORK, result, _SAMPLES)
     return result[: _counted(reply)], reply.tests
 
 
@@ -333,6 +350,26 @@ def to_signed(table: Words) -> Table:
     return Table(ctypes.string_at(result, 4 * _counted(_reply_to(table, _library.sirbolta_to_signed, _work(), _WORK, result, _TABLE))))
 
 
+def to_steps(drive: Samples) -> bytes:
+    """A drive rearranged to steps: its first sample, then the step to each later one. Refusals: TextTooLong.
+
+    >>> list(to_steps(bytes([5, 7, 9, 3, 5])))
+    [5, 2, 2, 250, 2]
+    """
+    samples, result = _samples(drive), _Bytes()
+    return ctypes.string_at(result, _counted(_library.sirbolta_to_steps(samples, len(samples), result, _SAMPLES)))
+
+
+def from_steps(steps: Samples) -> bytes:
+    """The drive that `to_steps` rearranges to these steps. Refusals: TextTooLong.
+
+    >>> list(from_steps(bytes([5, 2, 2, 250, 2])))
+    [5, 7, 9, 3, 5]
+    """
+    samples, result = _samples(steps), _Bytes()
+    return ctypes.string_at(result, _counted(_library.sirbolta_from_steps(samples, len(samples), result, _SAMPLES)))
+
+
 def _counted(reply: _Reply | _SearchReply) -> int:
     """The count of a reply, or its refusal raised."""
     if reply.number:
@@ -351,6 +388,13 @@ def _samples(value: Samples) -> bytes:
         if view.itemsize != 1:
             raise TypeError("samples are single bytes")
         return view.tobytes()
+
+
+def _form(steps: bool) -> int:
+    """What tables hold, as the library is told it."""
+    if not isinstance(steps, bool):
+        raise TypeError(f"steps is True or False, not {type(steps).__name__}")
+    return int(steps)
 
 
 def _gathered(tables: Iterator[Words]) -> tuple[list[bytes], Exception | None]:

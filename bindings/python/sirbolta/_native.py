@@ -9,7 +9,7 @@ import threading
 from pathlib import Path
 from typing import Any
 
-INTERFACE = 2
+INTERFACE = 3
 WORK = 16_384  # the words of a work slice
 STACK = 512 << 10  # bytes: on a smaller stack reading back and locating, which take up to 240 KiB of it, are not called
 
@@ -37,13 +37,15 @@ FUNCTIONS: dict[str, tuple[type[ctypes.Structure] | None, list[Any]]] = {
     "check": (Reply, SLICE * 2),
     "read": (Reply, SLICE * 3),
     "extract": (Reply, SLICE + [ctypes.c_size_t] * 2 + SLICE * 2),
-    "count": (SearchReply, SLICE * 3),
-    "locate": (SearchReply, SLICE * 4),
+    "count": (SearchReply, SLICE + [ctypes.c_uint32] + SLICE * 2),
+    "locate": (SearchReply, SLICE + [ctypes.c_uint32] + SLICE * 3),
     "live_cuts": (Reply, SLICE * 2),
     "lyndon_length": (Reply, SLICE + [ctypes.c_size_t] + SLICE),
     "lyndon_array": (Reply, SLICE * 3),
     "to_signed": (Reply, SLICE * 3),
-    "count_each": (None, [ctypes.c_void_p] * 2 + [ctypes.c_size_t] + SLICE * 2 + [ctypes.c_void_p]),
+    "to_steps": (Reply, SLICE * 2),
+    "from_steps": (Reply, SLICE * 2),
+    "count_each": (None, [ctypes.c_void_p] * 2 + [ctypes.c_size_t, ctypes.c_uint32] + SLICE * 2 + [ctypes.c_void_p]),
 }
 
 

@@ -57,6 +57,10 @@ class ResultTooShort(Refusal):
     number, reason = 9, "the result slice is too short, {place} entries are needed"
 
 
+class NoStep(Refusal):
+    number, reason = 10, "the pattern has one sample, so no step by which to search a table that holds steps"
+
+
 def refusal(number: int, place: int, table: int | None = None) -> Refusal:
     """The refusal with this number."""
     return _NUMBERED[number](place, table)
