@@ -3,6 +3,7 @@
 // side counts; so is the drive's Lyndon array, entry by entry, with what single calls answer and with what the naive side says, and the motif's
 // cuts with those that the naive side lists. The file `stdout` has what is printed.
 use definitions::Answer;
+use definitions::Content;
 use equality::equal;
 use libc::STDIN_FILENO;
 use libc::STDOUT_FILENO;
@@ -80,7 +81,7 @@ fn search<'a>(table: &'a [u32], drive: &'a [u8], motif: &'a [u8])
     let mut work = [7u32; 16384];
     let mut found = [7u32; 64];
     let mut scanned = [7u32; 64];
-    let s = index::locate(table, motif, &mut work, &mut found);
+    let s = index::locate(table, Content::Samples, motif, &mut work, &mut found);
     let a = s.answer;
     let tests = s.tests;
     match a {
