@@ -23,12 +23,7 @@ ghost use Rattle.listing.specs.Listing.{Finds, rulesCounted};
 ghost use Rattle.finding.specs.Counted.{Sought, Counted};
 
 // Counts in the text that is loaded, whose table has so many rules: finds and tests.
-pub fn count_loaded(
-    content: Content,
-    pattern: &[u8],
-    rules: usize,
-    work: &mut [u32],
-) -> Totals
+pub fn count_loaded(content: Content, pattern: &[u8], rules: usize, work: &mut [u32]) -> Totals
     requires { ⌜ Sought content (now pattern) rules (now work) ⌝ }
     ensures { λ n. ⌜ ((h : Ready (now (work .entry))) → h .order ≡ sampleOrder → rules ≡ rulesLoaded h → Counted content (now (pattern .entry)) h n (now (work .exit))) ⌝ }
 {
@@ -92,13 +87,7 @@ pub fn deliver_cuts(pattern: &[u8], result: &mut [u32]) -> Answer
 }
 
 // Lists what is counted, n occurrences by so many rules from place `from` of the text on, or refuses by 9.
-fn deliver_found(
-    n: usize,
-    rules: usize,
-    from: usize,
-    work: &[u32],
-    result: &mut [u32],
-) -> Answer
+fn deliver_found(n: usize, rules: usize, from: usize, work: &[u32], result: &mut [u32]) -> Answer
     requires { ⌜ ((h : Finds (now work)) × (rules ≡ rulesCounted h) × (from ≤ 1) × (n ≡ length (occurrences (h .pattern) (drop from (h .text))))) ⌝ }
     ensures { λ r. ⌜ ((h : Finds (now (work .entry))) → rules ≡ rulesCounted h → n ≡ length (occurrences (h .pattern) (drop from (h .text))) → Serves (writes [] (occurrences (h .pattern) (drop from (h .text))) 0 (now (result .entry))) (Answers r) (now (result .exit) ∷ [])) ⌝ }
 {

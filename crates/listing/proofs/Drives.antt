@@ -69,7 +69,7 @@ one-moved : (first k : ℕ) → one (suc first) (0 + suc k) ≡ one first (0 + k
 one-moved first k =
     split-le first k
     (λ h. let e : 0 + suc k - suc first ≡ 0 + k - first = omega arith in
-      rw (le-ltb (0 + suc k) (suc first) (omega arith), le-ltb (0 + k) first (omega arith)) (ap (λ (i : ℕ). i ∷ []) e))
+    rw (le-ltb (0 + suc k) (suc first) (omega arith), le-ltb (0 + k) first (omega arith)) (ap (λ (i : ℕ). i ∷ []) e))
     (λ h. rw (lt-ltb (0 + suc k) (suc first) (omega arith), lt-ltb (0 + k) first (omega arith)))
 
 drive-moved : (first : ℕ) (l : List ℕ) → inDrive (suc first) 0 (map suc l) ≡ inDrive first 0 l

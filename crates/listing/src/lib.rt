@@ -56,14 +56,7 @@ fn list_rule(
 }
 
 // The same, with no call where the rule has no occurrence or is a symbol.
-fn list_half(
-    work: &[u32],
-    r: usize,
-    at: usize,
-    first: usize,
-    result: &mut [u32],
-    n: usize,
-) -> usize
+fn list_half(work: &[u32], r: usize, at: usize, first: usize, result: &mut [u32], n: usize) -> usize
     requires { ⌜ Listable (now work) first r at n (length (now result)) ⌝ }
     ensures { λ m. ⌜ Listed (now (work .entry)) first r at n m (now (result .entry)) (now (result .exit)) ⌝ }
 {

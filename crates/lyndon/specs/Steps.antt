@@ -267,14 +267,14 @@ module _ (p x : List ℕ) (long : 2 ≤ length p) (hp : Bytes p) (hx : Bytes x) 
   unfolding stepFinds
   follows i = (
     λ m.
-      let (l, e) = below-lt (λ k. begins (stepsOf p) (stepsOf (drop k x))) (length x) i m in
-      let (n, f) = begins-entries (stepsOf p) (stepsOf (drop i x)) e in
-      let fits : i + length p ≤ length x = omega (arith, steps-size p, steps-size (drop i x), length-drop i x) in
-      (fits, λ j h. same-step i j fits h .0 (f j (omega (arith, steps-size p)))),
+        let (l, e) = below-lt (λ k. begins (stepsOf p) (stepsOf (drop k x))) (length x) i m in
+        let (n, f) = begins-entries (stepsOf p) (stepsOf (drop i x)) e in
+        let fits : i + length p ≤ length x = omega (arith, steps-size p, steps-size (drop i x), length-drop i x) in
+        (fits, λ j h. same-step i j fits h .0 (f j (omega (arith, steps-size p)))),
     λ (fits, f).
-      below-in (λ k. begins (stepsOf p) (stepsOf (drop k x))) (length x) i (omega arith)
-      (entries-begin (stepsOf p) (stepsOf (drop i x)) (omega (arith, steps-size p, steps-size (drop i x), length-drop i x))
-      (λ j h. same-step i j fits (omega (arith, steps-size p)) .1 (f j (omega (arith, steps-size p))))),
+        below-in (λ k. begins (stepsOf p) (stepsOf (drop k x))) (length x) i (omega arith)
+        (entries-begin (stepsOf p) (stepsOf (drop i x)) (omega (arith, steps-size p, steps-size (drop i x), length-drop i x))
+        (λ j h. same-step i j fits (omega (arith, steps-size p)) .1 (f j (omega (arith, steps-size p))))),
   )
 
 pub steps-rising : (p x : List ℕ) → Rising (stepFinds p x)

@@ -65,7 +65,13 @@ fn locate_motif<'a>(input: &'a [u8], table: &'a [u32], positions: &mut [u32]) ->
 {
     let end = motif_length(input);
     let mut work = [0u32; 16384];
-    let found = index::locate(table, Content::Samples, &input[0..end], &mut work, positions);
+    let found = index::locate(
+        table,
+        Content::Samples,
+        &input[0..end],
+        &mut work,
+        positions,
+    );
     found.answer
 }
 

@@ -32,13 +32,7 @@ pub struct Totals {
 
 // Counts the occurrences of a pattern in the text that is loaded, whose table has so many rules, and the tests; of the occurrences those from place `from` of the text on.
 // Where the root's string is shorter than the pattern, no rule has any.
-pub fn count(
-    order: Order,
-    pattern: &[u8],
-    from: usize,
-    work: &mut [u32],
-    rules: usize,
-) -> Totals
+pub fn count(order: Order, pattern: &[u8], from: usize, work: &mut [u32], rules: usize) -> Totals
     requires { ⌜ Starts order rules (now work) × (0 < length (now pattern)) × (length (now pattern) ≤ 2047) × (from ≤ 1) ⌝ }
     ensures { λ x. ⌜ ((text : List ℕ) (chair : ℕ) → Loaded order text chair (now (work .entry)) → rules ≡ ruleCount (tableOf order text chair) → (x .occurrences ≡ length (occurrences (now (pattern .entry)) (drop from text))) × (x .tests ≡ length (tests order (tableOf order text chair) (now (pattern .entry)))) × Searched order (now (pattern .entry)) text chair (now (work .exit))) ⌝ }
 {

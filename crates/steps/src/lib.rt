@@ -29,12 +29,12 @@ pub fn restore(steps: &[u8], text: &mut [u8])
     requires { ⌜ length (now steps) ≤ length (now text) ⌝ }
     ensures { λ _. ⌜ now (text .exit) ≡ placed (fromSteps (now (steps .entry))) (now (text .entry)) ⌝ }
 {
-    let mut before = 0;
+    let mut last = 0;
     let mut i = 0;
     while i < steps.len() {
-        let sample = wrapping_add_u8(before, steps[i]);
+        let sample = wrapping_add_u8(last, steps[i]);
         text[i] = sample;
-        before = sample;
+        last = sample;
         i += 1;
     }
 }

@@ -28,11 +28,12 @@ unfolding searched
 count-requires c κs =
     let w = c .before .before .before .before in
     let s = w .before .before .before .before in
-    let p = s .args .pattern .now in
-    (loaded-starts (s .pre),
-    subst (λ (l : List ℕ). 0 < length l) (sym (behind w)) (s .pre .filled),
-    subst (λ (l : List ℕ). length l ≤ 2047) (sym (behind w)) (omega (arith, steps-size p, s .pre .short)),
-    omega arith)
+    let p = s .args .pattern .now in (
+      loaded-starts (s .pre),
+      subst (λ (l : List ℕ). 0 < length l) (sym (behind w)) (s .pre .filled),
+      subst (λ (l : List ℕ). length l ≤ 2047) (sym (behind w)) (omega (arith, steps-size p, s .pre .short)),
+      omega arith,
+    )
 
 returns : tie.Need-returns
 unfolding searched

@@ -17,9 +17,12 @@ list-requires c κs =
     let f = c .before .before .before in
     let s = f .before .before .before in
     let a = s .args in
-    let h = s .pre .0 in
-    (h, s .pre .1, s .pre .2,
-    list-fits (occurrences (h .pattern) (drop (a .from) (h .text))) (a .result .now) (a .n) (s .pre .3) (f .result-fits .result) (f .result-fits .ensures) (c .before .enum-told .given .1))
+    let h = s .pre .0 in (
+      h,
+      s .pre .1,
+      s .pre .2,
+      list-fits (occurrences (h .pattern) (drop (a .from) (h .text))) (a .result .now) (a .n) (s .pre .3) (f .result-fits .result) (f .result-fits .ensures) (c .before .enum-told .given .1),
+    )
 
 returns-2 : tie.Need-returns-2
 returns-2 c h e q =

@@ -25,11 +25,12 @@ deliver-found-requires c κs =
     let a = s .args in
     let q = s .pre in
     let h = q .ready in
-    let found = k .count-loaded .ensures h (q .ordered) (q .size) in
-    (all-found sampleOrder (searched (a .content) (a .pattern .now)) (h .text) (k .count-loaded .last .1 .1 .1 .0) (h .chair) (found .all),
-    in-order sampleOrder (a .work .now) h (a .rules) (q .ordered) (q .size),
-    omega (arith, start-low (a .content), z .start-of .ensures),
-    found .number ∙ ap length (finds-from (a .content) (a .pattern .now) h (q .ordered) (q .filled) (z .start-of .ensures)))
+    let found = k .count-loaded .ensures h (q .ordered) (q .size) in (
+      all-found sampleOrder (searched (a .content) (a .pattern .now)) (h .text) (k .count-loaded .last .1 .1 .1 .0) (h .chair) (found .all),
+      in-order sampleOrder (a .work .now) h (a .rules) (q .ordered) (q .size),
+      omega (arith, start-low (a .content), z .start-of .ensures),
+      found .number ∙ ap length (finds-from (a .content) (a .pattern .now) h (q .ordered) (q .filled) (z .start-of .ensures)),
+    )
 
 returns : tie.Need-returns
 unfolding all-found

@@ -88,17 +88,18 @@ passed-over-requires : tie.Need-passed-over-requires
 passed-over-requires c κs =
     let r = c .before .before .before .before .before in
     let s = number-start r in
-    let h = s .pre .0 in
-    (r .before .before .before .before .place-pattern .result,
-    record {
-      order = s .args .order;
-      samples = s .args .pattern .now;
-      text = h .text;
-      chair = h .chair;
-      counting = all-counted r (h .text) (h .chair) (h .loaded) (h .size) .0;
-      size = h .size;
-    },
-    s .pre .3)
+    let h = s .pre .0 in (
+      r .before .before .before .before .place-pattern .result,
+      record {
+        order = s .args .order;
+        samples = s .args .pattern .now;
+        text = h .text;
+        chair = h .chair;
+        counting = all-counted r (h .text) (h .chair) (h .loaded) (h .size) .0;
+        size = h .size;
+      },
+      s .pre .3,
+    )
 
 -- how many begin before, and how many are counted
 both : (c : tie.After-passed-over) → let r = c .before .before .before .before .before .before in

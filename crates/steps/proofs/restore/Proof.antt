@@ -12,11 +12,11 @@ use Rattle.steps.proofs.restore.Statement.{statement}
 use Rattle.steps.proofs.restore.Tie as tie
 
 abbrev Inv-loop : tie.InvT-loop
-Inv-loop steps text₀ before₀ i₀ text before i =
-    (i ≤ length steps) × (length text ≡ length text₀) × (before ≡ getD (0 ∷ samplesFrom 0 steps) i 0) × (text ≡ placed (take i (samplesFrom 0 steps)) text₀)
+Inv-loop steps text₀ last₀ i₀ text last i =
+    (i ≤ length steps) × (length text ≡ length text₀) × (last ≡ getD (0 ∷ samplesFrom 0 steps) i 0) × (text ≡ placed (take i (samplesFrom 0 steps)) text₀)
 
 abbrev μ-loop : tie.MeasureT-loop
-μ-loop steps text₀ before₀ i₀ text before i = length steps - i
+μ-loop steps text₀ last₀ i₀ text last i = length steps - i
 
 loop-holds : tie.Need-loop-holds Inv-loop μ-loop
 loop-holds c = (omega arith, refl, refl, sym (placed-none (c .before .before .args .text .now)))
@@ -27,10 +27,10 @@ loop-again c =
     let a = at .before .before .before .args in
     let i = at .loop .i in
     let b = c .wrapping-add-u8 in
-    let (written, last) =
-    sample-more (a .steps .now) (a .text .now) (at .loop .text) i (λ j h. omega (arith, at .before .before .shared-slice-known .given j)) (at .loop .before) (b .result)
+    let (written, next) =
+    sample-more (a .steps .now) (a .text .now) (at .loop .text) i (λ j h. omega (arith, at .before .before .shared-slice-known .given j)) (at .loop .last) (b .result)
     (omega arith) (omega arith) (at .loop .inv .2) (b .ensures) (at .loop .inv .3) in
-    (omega arith, length-set (at .loop .text) i (b .result) ∙ at .loop .inv .1, last, written)
+    (omega arith, length-set (at .loop .text) i (b .result) ∙ at .loop .inv .1, next, written)
 
 returns : tie.Need-returns Inv-loop μ-loop
 returns c =
