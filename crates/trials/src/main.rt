@@ -1,7 +1,8 @@
 // The program `trials`: each line of its input has a drive and a motif, with a space between them. The drive is stored and the motif
 // searched, and what the library lists is compared with what the naive scanner lists, and the tests that it counts with those that the naive
-// side counts; so is the drive's Lyndon array, entry by entry, with what single calls answer and with what the naive side says, and the motif's
-// cuts with those that the naive side lists. The file `stdout` has what is printed.
+// side counts; so is the drive's Lyndon array, entry by entry, with what single calls answer and with what the naive side says, the motif's
+// cuts with those that the naive side lists, and what is found by the motif's steps, once the drive is rearranged, with what the naive side finds in the drive
+// as it was. The file `stdout` has what is printed.
 use definitions::Answer;
 use definitions::Content;
 use equality::equal;
@@ -52,6 +53,7 @@ fn try_line(line: &[u8]) {
         let from = e + 1;
         store(&line[0..e], &line[from..]);
         cut(&line[from..]);
+        follow(&line[0..e], &line[from..]);
     }
     print(b"\n");
 }
@@ -169,6 +171,44 @@ fn cut(motif: &[u8]) {
         Answer::Done(n) => {
             print_list(b" cuts", &cuts, n);
             if naive_cuts::list(motif, &mut tried) == n && equal(&cuts, &tried) {
+                print(b" by both");
+            }
+        }
+    }
+}
+
+// Rearranges a drive and stores it, then searches by steps. A drive of this program has at most 63 samples.
+fn follow<'a>(drive: &'a [u8], motif: &'a [u8]) {
+    if 63 < drive.len() {
+        return;
+    }
+    let mut steps = [7u8; 63];
+    let mut work = [7u32; 16384];
+    let mut table = [7u32; 254];
+    index::to_steps(drive, &mut steps);
+    let a = index::build(&steps[0..drive.len()], 0, &mut work, &mut table);
+    let Answer::Done(n) = a else {
+        return;
+    };
+    if n <= 254 {
+        search_steps(&table[0..n], drive, motif);
+    }
+}
+
+// Prints what the library finds by the motif's steps, and whether the naive side finds the same in the drive as it was.
+fn search_steps<'a>(table: &'a [u32], drive: &'a [u8], motif: &'a [u8])
+    requires { ⌜ length (now drive) ≤ 63 ⌝ }
+{
+    let mut work = [7u32; 16384];
+    let mut found = [7u32; 64];
+    let mut scanned = [7u32; 64];
+    let s = index::locate(table, Content::Steps, motif, &mut work, &mut found);
+    let a = s.answer;
+    match a {
+        Answer::Refused(number, _) => print_number(b" refused ", wide(number)),
+        Answer::Done(n) => {
+            print_list(b" steps", &found, n);
+            if naive_steps::scan(motif, drive, &mut scanned) == n && equal(&found, &scanned) {
                 print(b" by both");
             }
         }
