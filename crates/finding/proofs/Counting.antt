@@ -1,6 +1,6 @@
 -- Searching the text that is loaded: a search starts from it (`loaded-starts`), and what is counted is counted in it, by what is searched for (`loaded-count`).
 use mathlib.Core.Path.{_≡_, refl, sym, _∙_, ap, subst}
-use mathlib.Core.List.{List, [], _∷_, _++_}
+use mathlib.Core.List.{List, [], _∷_}
 use Prim.Native.Nat.{ℕ, _-_, _≤_, _<_}
 use native.Mathlib.Omega.{arith}
 use lib.ListN.{length, take, drop}

@@ -16,20 +16,20 @@ use Rattle.definitions.specs.declared.Answer.{Answer}
 use Rattle.definitions.specs.declared.Answer.the-variants.{Done}
 use Rattle.definitions.specs.declared.Search.{Search}
 use Rattle.definitions.specs.Words.{placed}
-use Rattle.definitions.specs.Table.{rankOf, textOf, isTable}
+use Rattle.definitions.specs.Table.{rankOf, tableOf, textOf, isTable}
 use Rattle.definitions.specs.Occurrences.{listedCuts, patternCuts, tests}
-use Rattle.definitions.specs.Steps.{fromSteps, searched, finds}
-use Rattle.definitions.specs.Services.{Check, done, refused, outcomeOf, firstMet, cleared, workSlice, resultTooShort, outcome, slicesAfter, searchOf, Serves, Answers, Searches, tableChecks, patternChecks, searchChecks, countService, locateService, cutsService}
+use Rattle.definitions.specs.Steps.{toSteps, fromSteps, stepFinds, searched, finds}
+use Rattle.definitions.specs.Services.{done, refused, outcomeOf, firstMet, cleared, workSlice, resultTooShort, outcome, slicesAfter, searchOf, Serves, Answers, Searches, tableChecks, patternChecks, searchChecks, countService, locateService, cutsService}
 use Rattle.lists.specs.Numbers.{Rising}
 use Rattle.lists.specs.Members.{in-none}
 use Rattle.lists.specs.Decisions.{Passed, none, more, both-passed, passed-all}
 use Rattle.lyndon.specs.Ranks.{Bytes}
-use Rattle.lyndon.specs.Stored.{Acceptable, accepted-stored}
+use Rattle.lyndon.specs.Stored.{Stored, Acceptable, accepted-stored, table-text}
 use Rattle.lyndon.specs.Cuts.{Live}
 use Rattle.lyndon.specs.Listed.{WordAgain, listed-cut, listed-rising, listed-twice, Largest, listed-bound}
 use Rattle.lyndon.specs.Joins.{Suffices, listed-suffice}
 use Rattle.lyndon.specs.Occurrences.{BeginsAt, occurrence, occurrences-rising}
-use Rattle.lyndon.specs.Steps.{FollowsAt, follows, steps-rising, two-samples, from-bytes}
+use Rattle.lyndon.specs.Steps.{FollowsAt, follows, steps-rising, two-samples, to-bytes, from-bytes, to-length, restored}
 
 -- what is demanded of the list l of all positions at which something is found
 pub record AllFinds (Found : ℕ → Type 0) (l : List ℕ) : Type 0 where
@@ -147,6 +147,15 @@ module _ (o : Order) (t : List ℕ) (c : Content) (p work : List ℕ) (accepted 
           ap (λ (x : Search). x .tests) s,
           counted ∙ ap (λ (m : ℕ). done m made) q,
         )
+
+-- a drive that is rearranged can be stored, and a search of its table by steps finds what the definition says of the drive as it was
+pub rearranged-stored : (x : List ℕ) (chair : ℕ) → Stored x chair → Stored (toSteps x) chair
+rearranged-stored x chair ok = record { short = omega (arith, to-length x, ok .short); bytes = to-bytes x (ok .bytes); chairs = ok .chairs }
+
+pub drive-searched : (o : Order) (p x : List ℕ) (chair : ℕ) → Stored x chair → finds Steps p (textOf o (tableOf o (toSteps x) chair)) ≡ stepFinds p x
+unfolding finds
+drive-searched o p x chair ok =
+    ap (λ (text : List ℕ). stepFinds p (fromSteps text)) (table-text o (toSteps x) chair (rearranged-stored x chair ok)) ∙ ap (stepFinds p) (restored x (ok .bytes))
 
 -- ---- the cuts of a pattern
 

@@ -1,13 +1,13 @@
 -- Steps: rearranging and restoring give each other back (`restored`, `rearranged`); a search by steps is the search for the pattern's steps behind the first
 -- sample of what is stored (`finds-are`), and its finds are the positions from which the same steps follow (`follows`). They do not change when one number is
 -- added, modulo 256, to every sample of the drive or of the pattern (`drive-moved`, `pattern-moved`).
-use mathlib.Core.Path.{_≡_, refl, sym, _∙_, ap, ap₂, subst}
-use mathlib.Core.Bool.{Bool, true, false, false≢true}
+use mathlib.Core.Path.{_≡_, refl, sym, _∙_, ap, ap₂}
+use mathlib.Core.Bool.{true, false≢true}
 use mathlib.Core.Logic.{⊎-elim, _↔_}
-use mathlib.Core.List.{List, [], _∷_, _++_, map, List·Memᴰ as In, List·Memᴰ·head as here, List·Memᴰ·tail as there, List·Memᴰ·cases-cons as in-cons, List·Memᴰ·not-nil as in-nil}
+use mathlib.Core.List.{List, [], _∷_, map, List·Memᴰ as In, List·Memᴰ·head as here, List·Memᴰ·tail as there, List·Memᴰ·cases-cons as in-cons, List·Memᴰ·not-nil as in-nil}
 use Prim.Native.Nat.{ℕ, zero, suc, _+_, _-_, _%_, _≤_, _<_}
 use native.Mathlib.Omega.{arith}
-use lib.ListN.{length, take, drop, getD, length-map, length-drop}
+use lib.ListN.{length, drop, getD, length-map, length-drop}
 use lib.Seq.{getD-drop}
 use lib.Dec.{eqb}
 use borrow.Author.Tests.{eqb-true, eq-eqb}
@@ -129,10 +129,10 @@ unfolding stepsOf
 steps-bytes a [] b m = absurd (in-nil m)
 steps-bytes a (b ∷ x) c m = cons-bytes (step a b) (stepsOf (b ∷ x)) (step-range a b) (steps-bytes b x) c m
 
-pub pattern-bytes : (p : List ℕ) → Bytes (stepsOf p)
-unfolding stepsOf
-pattern-bytes [] b m = absurd (in-nil m)
-pattern-bytes (a ∷ p) b m = steps-bytes a p b m
+pub to-bytes : (x : List ℕ) → Bytes x → Bytes (toSteps x)
+unfolding toSteps stepsOf
+to-bytes [] h b m = absurd (in-nil m)
+to-bytes (a ∷ x) h b m = cons-bytes a (stepsOf (a ∷ x)) (h a (here refl)) (steps-bytes a x) b m
 
 samples-bytes : (a : ℕ) (y : List ℕ) → Bytes (samplesFrom a y)
 unfolding samplesFrom

@@ -88,15 +88,15 @@ module _ (o : Order) (text : List ℕ) (chair : ℕ) (w : List ℕ) (h : Loaded 
   -- ---- the text, and all rules
 
   -- the root's string is the text and the mark
-  root-size : (rules : ℕ) → rules ≡ ruleCount (tableOf o text chair) → lengthIn w (rules - 1) ≡ length text + 1
+  pub root-size : (rules : ℕ) → rules ≡ ruleCount (tableOf o text chair) → lengthIn w (rules - 1) ≡ length text + 1
   unfolding spelled
   root-size rules e =
       let most = rule-range o text chair (h .kept .stored) in
       let root = ap (λ (i : ℕ). lengthIn w (i - 1)) e in
       omega (arith, root, h .sizes (ruleCount t - 1) (omega arith), ap length (table-spelled o text chair (h .kept .stored)), marked-length o text)
 
-  pub short-text : (p : List ℕ) (rules : ℕ) → rules ≡ ruleCount (tableOf o text chair) → lengthIn w (rules - 1) < length p → 0 ≡ length (occurrences p text)
-  short-text p rules e l = sym (ap length (longer-nowhere p text (omega (arith, root-size rules e))))
+  pub short-text : (p : List ℕ) (from rules : ℕ) → rules ≡ ruleCount (tableOf o text chair) → lengthIn w (rules - 1) < length p → 0 ≡ length (occurrences p (drop from text))
+  short-text p from rules e l = sym (ap length (longer-nowhere p (drop from text) (omega (arith, root-size rules e, length-drop from text))))
 
   pub short-search : (p : List ℕ) (rules : ℕ) → rules ≡ ruleCount (tableOf o text chair) → lengthIn w (rules - 1) < length p → 0 ≡ length (tests o (tableOf o text chair) p)
   short-search p rules e l = omega (arith, root-size rules e, tests-most o text chair (h .kept .stored) p)

@@ -1,5 +1,5 @@
 -- The occurrences before the second place of the text: one where the text begins with the pattern (`first-passed`), none where it does not (`not-passed`) or is not longer (`none-passed`).
-use mathlib.Core.Path.{_≡_, refl, sym, _∙_, ap, ap₂}
+use mathlib.Core.Path.{_≡_, sym, _∙_, ap, ap₂}
 use mathlib.Core.Bool.{Bool, true, false, cond}
 use mathlib.Core.List.{List, [], _∷_, _++_, map}
 use Prim.Native.Nat.{ℕ, suc, _+_, _-_, _≤_, _<_}
@@ -7,31 +7,20 @@ use native.Mathlib.Omega.{arith}
 use lib.ListN.{length, take, drop, length-append, length-drop, length-map}
 use Rattle.definitions.specs.declared.Order.{Order}
 use Rattle.definitions.specs.Words.{same, begins}
-use Rattle.definitions.specs.Table.{rankOf, marked, tableOf, spelled, ruleString, ruleCount}
+use Rattle.definitions.specs.Table.{rankOf, marked, tableOf, ruleCount}
 use Rattle.definitions.specs.Occurrences.{occurrences}
 use Rattle.lists.specs.Parts.{part, part-part}
 use Rattle.lists.specs.Strings.{front-begins}
-use Rattle.lyndon.specs.Ranks.{marked-length}
-use Rattle.lyndon.specs.Stored.{rule-range, table-spelled}
 use Rattle.lyndon.specs.Occurrences.{longer-nowhere, occurrences-first, begins-ranks}
 use Rattle.layout.specs.Layout.{PATTERN, lengthIn}
-use Rattle.state.specs.State.{Loaded}
 use Rattle.rule_finds.specs.Searching.{Counting}
-
--- the root's string is the marked text
-pub root-size : (o : Order) (text : List ℕ) (chair : ℕ) (w : List ℕ) → Loaded o text chair w → (rules : ℕ) → rules ≡ ruleCount (tableOf o text chair)
-    → lengthIn w (rules - 1) ≡ suc (length text)
-unfolding spelled
-root-size o text chair w h rules e =
-    h .sizes (rules - 1) (omega (arith, rule-range o text chair (h .kept .stored)))
-    ∙ ap length (ap (λ (r : ℕ). ruleString o (tableOf o text chair) (r - 1)) e ∙ table-spelled o text chair (h .kept .stored))
-    ∙ marked-length o text
+use Rattle.rule_finds.proofs.Short.{root-size}
 
 module _ (o : Order) (p text : List ℕ) (chair m n rules : ℕ) (w : List ℕ) (h : Counting o p text chair m n rules w) (e : rules ≡ ruleCount (tableOf o text chair)) where
   filled : 0 < length p
   filled = h .pattern .filled
 
-  size : lengthIn w (rules - 1) ≡ suc (length text)
+  size : lengthIn w (rules - 1) ≡ length text + 1
   size = root-size o text chair w (h .loaded) rules e
 
   pub none-passed : lengthIn w (rules - 1) ≤ m → length (occurrences p (drop 1 text)) ≡ length (occurrences p text)

@@ -3,7 +3,7 @@ use mathlib.Core.Path.{refl, sym, subst}
 use native.Mathlib.Omega.{arith}
 use borrow.Author.Needs.{needs}
 use Rattle.definitions.specs.declared.Content.{Content}
-use Rattle.definitions.specs.declared.Content.the-variants.{Samples, Steps}
+use Rattle.definitions.specs.declared.Content.the-variants.{Samples}
 use Rattle.definitions.specs.Steps.{searched}
 use Rattle.finding.specs.Counted.{Sought, Counted}
 use Rattle.finding.proofs.Counting.{loaded-starts, loaded-count}

@@ -1,17 +1,14 @@
 -- `locate_loaded` counts, delivers what is found, and answers with the tests.
-use mathlib.Core.Path.{_≡_, sym, _∙_, ap, subst}
+use mathlib.Core.Path.{sym, _∙_, ap, subst}
 use mathlib.Core.List.{List, [], _∷_}
 use Prim.Native.Nat.{ℕ}
 use native.Mathlib.Omega.{arith}
-use lib.ListN.{length, drop}
+use lib.ListN.{length}
 use borrow.Author.Needs.{needs}
-use Rattle.definitions.specs.Occurrences.{occurrences}
 use Rattle.definitions.specs.Steps.{searched, finds}
 use Rattle.definitions.specs.Services.{done, searchOf, sampleOrder, writes, Serves, Answers}
 use Rattle.lists.specs.Serving.{restated}
-use Rattle.lyndon.specs.Steps.{startOf}
 use Rattle.results.proofs.Answers.{tests-refused, tests-done}
-use Rattle.state.specs.State.{Ready}
 use Rattle.finding.proofs.Counting.{in-order, start-low, finds-from, all-found}
 use Rattle.finding.proofs.locate_loaded.Statement.{statement}
 use Rattle.finding.proofs.locate_loaded.Tie as tie

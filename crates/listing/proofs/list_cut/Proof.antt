@@ -1,7 +1,7 @@
 -- `list_cut` lists the one occurrence at a join, or none.
-use mathlib.Core.Path.{sym, _∙_, ap, subst}
+use mathlib.Core.Path.{sym, _∙_, ap}
 use mathlib.Core.List.{List}
-use Prim.Native.Nat.{ℕ, _+_, _≤_}
+use Prim.Native.Nat.{ℕ, _+_}
 use native.Mathlib.Omega.{arith}
 use lib.ListN.{length}
 use Rattle.listing.specs.Listing.{placedFrom}

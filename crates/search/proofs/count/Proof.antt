@@ -1,21 +1,19 @@
 -- `count` finds nothing where the root's string is shorter than the pattern; else it places the pattern, counts every rule, and reads the root's number, less what is passed over.
-use mathlib.Core.Path.{_≡_, sym, _∙_, ap}
+use mathlib.Core.Path.{_≡_, sym, _∙_}
 use mathlib.Core.List.{List}
 use Prim.Native.Nat.{ℕ, _+_, _-_, _≤_, _<_}
 use native.Mathlib.Omega.{arith}
-use lib.ListN.{length, drop, length-drop}
+use lib.ListN.{length, drop}
 use borrow.Author.Needs.{needs}
 use borrow.Author.Tests.{ltb-true}
 use Rattle.definitions.specs.Table.{tableOf, ruleCount}
 use Rattle.definitions.specs.Occurrences.{occurrences, tests}
 use Rattle.lyndon.specs.Stored.{rule-range}
-use Rattle.lyndon.specs.Occurrences.{longer-nowhere}
 use Rattle.layout.specs.Layout.{FOUND, lengthIn}
 use Rattle.state.specs.State.{Loaded}
 use Rattle.rule_finds.specs.Searching.{Counting}
-use Rattle.rule_finds.proofs.Short.{short-search, short-all}
+use Rattle.rule_finds.proofs.Short.{short-text, short-search, short-all}
 use Rattle.search.proofs.Starting.{pattern-here, counted-text, counted-all}
-use Rattle.search.proofs.Passing.{root-size}
 use Rattle.search.proofs.count.Statement.{statement}
 use Rattle.search.proofs.count.Tie as tie
 
@@ -42,7 +40,7 @@ returns c text chair h e =
     let p = a .pattern .now in
     let q = pattern-here p (s .pre .1) (s .pre .2) (λ j b. omega (arith, k .shared-slice-known .given j)) in
     let shorter = ltb-true (lengthIn w (a .rules - 1)) (length p) (sym (i .is-shorter .ensures) ∙ l .before .before .if1 .taken) in (
-      sym (ap length (longer-nowhere p (drop (a .from) text) (omega (arith, length-drop (a .from) text, root-size (a .order) text chair w h (a .rules) e)))),
+      short-text (a .order) text chair w h p (a .from) (a .rules) e shorter,
       short-search (a .order) text chair w h p (a .rules) e shorter,
       short-all (a .order) text chair w h p (l .clear .last .0) (FOUND + a .rules - FOUND) (a .rules) q e shorter (omega arith) (l .clear .ensures),
     )
