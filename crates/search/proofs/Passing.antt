@@ -1,6 +1,6 @@
--- The occurrences before the second place of the text: one where the text begins with the pattern (`first-passed`), none where it does not (`not-passed`) or is not longer (`none-passed`).
+-- The occurrences before the second place of the text: one where the text begins with the pattern (`first-passed`), none where it is not longer (`none-passed`).
 use mathlib.Core.Path.{_≡_, sym, _∙_, ap, ap₂}
-use mathlib.Core.Bool.{Bool, true, false, cond}
+use mathlib.Core.Bool.{Bool, cond}
 use mathlib.Core.List.{List, [], _∷_, _++_, map}
 use Prim.Native.Nat.{ℕ, suc, _+_, _-_, _≤_, _<_}
 use native.Mathlib.Omega.{arith}
@@ -15,6 +15,10 @@ use Rattle.lyndon.specs.Occurrences.{longer-nowhere, occurrences-first, begins-
 use Rattle.layout.specs.Layout.{PATTERN, lengthIn}
 use Rattle.rule_finds.specs.Searching.{Counting}
 use Rattle.rule_finds.proofs.Short.{root-size}
+
+-- the place at the start, or none
+abbrev pub start : Bool → List ℕ
+start b = cond b (0 ∷ []) []
 
 module _ (o : Order) (p text : List ℕ) (chair m n rules : ℕ) (w : List ℕ) (h : Counting o p text chair m n rules w) (e : rules ≡ ruleCount (tableOf o text chair)) where
   filled : 0 < length p
@@ -40,17 +44,9 @@ module _ (o : Order) (p text : List ℕ) (chair m n rules : ℕ) (w : List ℕ) 
       ∙ begins-ranks o p text (h .pattern .bytes) (h .loaded .kept .stored .bytes)
 
   -- all, by whether there is one at the start
-  abbrev start : Bool → List ℕ
-  start b = cond b (0 ∷ []) []
-
-  counted-first : (b : Bool) → begins p text ≡ b → length (start b) + length (occurrences p (drop 1 text)) ≡ length (occurrences p text)
-  counted-first b f =
-      let l = occurrences p (drop 1 text) in
-      let all : occurrences p text ≡ start b ++ map suc l = occurrences-first p text filled ∙ ap (λ (x : Bool). start x ++ map suc l) f in
-      omega (arith, ap length all, length-append (start b) (map suc l), length-map l suc)
-
-  pub first-passed : m < lengthIn w (rules - 1) → same (part 1 m w) (part PATTERN m w) ≡ true → 1 + length (occurrences p (drop 1 text)) ≡ length (occurrences p text)
-  first-passed l f = counted-first true (sym (starts l) ∙ f)
-
-  pub not-passed : m < lengthIn w (rules - 1) → same (part 1 m w) (part PATTERN m w) ≡ false → length (occurrences p (drop 1 text)) ≡ length (occurrences p text)
-  not-passed l f = omega (arith, counted-first false (sym (starts l) ∙ f))
+  pub first-passed : m < lengthIn w (rules - 1) → (b : Bool) → same (part 1 m w) (part PATTERN m w) ≡ b
+      → length (start b) + length (occurrences p (drop 1 text)) ≡ length (occurrences p text)
+  first-passed l b f =
+      let rest = occurrences p (drop 1 text) in
+      let all : occurrences p text ≡ start b ++ map suc rest = occurrences-first p text filled ∙ ap (λ (x : Bool). start x ++ map suc rest) (sym (starts l) ∙ f) in
+      omega (arith, ap length all, length-append (start b) (map suc rest), length-map rest suc)

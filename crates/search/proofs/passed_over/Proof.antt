@@ -1,17 +1,21 @@
 -- `passed_over` compares the text's first samples with the pattern, where counting begins behind them.
 use mathlib.Core.Path.{_≡_, sym, _∙_, ap₂}
-use mathlib.Core.Bool.{Bool}
-use Prim.Native.Nat.{_+_, _-_, _≤_, _<_}
+use mathlib.Core.Bool.{Bool, true, false}
+use mathlib.Core.List.{List}
+use Prim.Native.Nat.{ℕ, _+_, _-_, _≤_, _<_}
 use native.Mathlib.Omega.{arith}
 use native.Mathlib.Nat.{zero-add}
-use lib.ListN.{length}
+use lib.ListN.{length, drop}
 use borrow.Author.Needs.{needs}
+use Rattle.definitions.specs.declared.Order.{Order}
 use Rattle.definitions.specs.Words.{same}
+use Rattle.definitions.specs.Table.{tableOf, ruleCount}
 use Rattle.definitions.specs.Occurrences.{occurrences}
 use Rattle.lists.specs.Parts.{part, part-taken}
 use Rattle.lyndon.specs.Stored.{rule-range}
 use Rattle.layout.specs.Layout.{PATTERN}
-use Rattle.search.proofs.Passing.{none-passed, first-passed, not-passed}
+use Rattle.rule_finds.specs.Searching.{Counting}
+use Rattle.search.proofs.Passing.{start, none-passed, first-passed}
 use Rattle.search.proofs.passed_over.Statement.{statement}
 use Rattle.search.proofs.passed_over.Tie as tie
 
@@ -47,7 +51,7 @@ returns-2 c o p text chair n h e =
     let a = s .args in
     rw (second s (i .if1 .left)) (zero-add _ ∙ none-passed o p text chair (a .m) n (a .rules) (a .work .now) h e (omega (arith, c .before .length-of .ensures, c .if2 .taken)))
 
--- what is compared
+-- what is compared, and what comes of it
 compared : (c : tie.After-equal) → let a = c .before .before .before .before .before .before .before .args in
     c .equal .result ≡ same (part 1 (a .m) (a .work .now)) (part PATTERN (a .m) (a .work .now))
 compared c =
@@ -55,25 +59,21 @@ compared c =
     c .equal .ensures
     ∙ ap₂ {C = Bool} same (part-taken 1 (a .m + 1 - 1) (a .m) (a .work .now) (omega arith)) (part-taken PATTERN (PATTERN + a .m - PATTERN) (a .m) (a .work .now) (omega arith))
 
-returns-3 : tie.Need-returns-3
-returns-3 c o p text chair n h e =
-    let q = c .before in
-    let k = q .before .before .before in
+decided : (c : tie.After-equal) (b : Bool) → c .equal .result ≡ b → let a = c .before .before .before .before .before .before .before .args in
+    (o : Order) (p text : List ℕ) (chair n : ℕ) → Counting o p text chair (a .m) n (a .rules) (a .work .now) → a .rules ≡ ruleCount (tableOf o text chair)
+    → length (start b) + length (occurrences p (drop (a .from) text)) ≡ length (occurrences p text)
+decided c b f o p text chair n h e =
+    let k = c .before .before .before in
     let i = k .before .before in
     let s = i .before .before in
     let a = s .args in
-    rw (second s (i .if1 .left))
-    (first-passed o p text chair (a .m) n (a .rules) (a .work .now) h e (omega (arith, k .before .length-of .ensures, k .if2 .left)) (sym (compared q) ∙ c .if3 .taken))
+    rw (second s (i .if1 .left)) (first-passed o p text chair (a .m) n (a .rules) (a .work .now) h e (omega (arith, k .before .length-of .ensures, k .if2 .left)) b (sym (compared c) ∙ f))
+
+returns-3 : tie.Need-returns-3
+returns-3 c o p text chair n h e = decided (c .before) true (c .if3 .taken) o p text chair n h e
 
 returns-4 : tie.Need-returns-4
-returns-4 c o p text chair n h e =
-    let q = c .before in
-    let k = q .before .before .before in
-    let i = k .before .before in
-    let s = i .before .before in
-    let a = s .args in
-    rw (second s (i .if1 .left))
-    (zero-add _ ∙ not-passed o p text chair (a .m) n (a .rules) (a .work .now) h e (omega (arith, k .before .length-of .ensures, k .if2 .left)) (sym (compared q) ∙ c .if3 .left))
+returns-4 c o p text chair n h e = decided (c .before) false (c .if3 .left) o p text chair n h e
 
 pub passed-over-spec : {M : Type 1} → statement M
 passed-over-spec =
