@@ -1,16 +1,17 @@
 -- The occurrences before the second place of the text: one where the text begins with the pattern (`first-passed`), none where it is not longer (`none-passed`).
 use mathlib.Core.Path.{_≡_, sym, _∙_, ap, ap₂}
-use mathlib.Core.Bool.{Bool, cond}
+use mathlib.Core.Bool.{Bool, false, cond}
 use mathlib.Core.List.{List, [], _∷_, _++_, map}
 use Prim.Native.Nat.{ℕ, suc, _+_, _-_, _≤_, _<_}
 use native.Mathlib.Omega.{arith}
-use lib.ListN.{length, take, drop, length-append, length-drop, length-map}
+use lib.ListN.{length, take, drop, getD, length-append, length-drop, length-map}
 use Rattle.definitions.specs.declared.Order.{Order}
 use Rattle.definitions.specs.Words.{same, begins}
 use Rattle.definitions.specs.Table.{rankOf, marked, tableOf, ruleCount}
 use Rattle.definitions.specs.Occurrences.{occurrences}
-use Rattle.lists.specs.Parts.{part, part-part}
-use Rattle.lists.specs.Strings.{front-begins}
+use Rattle.lists.specs.Bools.{not-so}
+use Rattle.lists.specs.Parts.{part, part-at, part-part}
+use Rattle.lists.specs.Strings.{same-eq, front-begins}
 use Rattle.lyndon.specs.Occurrences.{longer-nowhere, occurrences-first, begins-ranks}
 use Rattle.layout.specs.Layout.{PATTERN, lengthIn}
 use Rattle.rule_finds.specs.Searching.{Counting}
@@ -20,7 +21,7 @@ use Rattle.rule_finds.proofs.Short.{root-size}
 abbrev pub start : Bool → List ℕ
 start b = cond b (0 ∷ []) []
 
-module _ (o : Order) (p text : List ℕ) (chair m n rules : ℕ) (w : List ℕ) (h : Counting o p text chair m n rules w) (e : rules ≡ ruleCount (tableOf o text chair)) where
+module _ (o : Order) (p text : List ℕ) (chair m n rules : ℕ) (w : List ℕ) (h : Counting o p text chair m n 0 w) (e : rules ≡ ruleCount (tableOf o text chair)) where
   filled : 0 < length p
   filled = h .pattern .filled
 
@@ -42,6 +43,13 @@ module _ (o : Order) (p text : List ℕ) (chair m n rules : ℕ) (w : List ℕ) 
       ap₂ {C = Bool} same (ranks ∙ ap (λ (k : ℕ). take k (map (rankOf o) text)) count) (h .ranks)
       ∙ front-begins (map (rankOf o) p) (map (rankOf o) text) (omega (arith, length-map text (rankOf o)))
       ∙ begins-ranks o p text (h .pattern .bytes) (h .loaded .kept .stored .bytes)
+
+  -- parts whose first words differ do
+  pub unlike : (getD w 1 0 ≡ getD w PATTERN 0 → ⊥) → same (part 1 m w) (part PATTERN m w) ≡ false
+  unlike d =
+      let inside : 0 < m = omega (arith, h .size, filled) in
+      not-so (same (part 1 m w) (part PATTERN m w))
+      (λ q. d (sym (part-at 1 m w 0 0 inside) ∙ ap (λ (l : List ℕ). getD l 0 0) (same-eq (part 1 m w) (part PATTERN m w) q) ∙ part-at PATTERN m w 0 0 inside))
 
   -- all, by whether there is one at the start
   pub first-passed : m < lengthIn w (rules - 1) → (b : Bool) → same (part 1 m w) (part PATTERN m w) ≡ b

@@ -1,7 +1,7 @@
 // The occurrences of a pattern in the text that is loaded, counted by the rules of its table, from the first rule up; and the tests, at most n - m + 2
 // for m samples among n. Equal samples cost most.
 use definitions::Order;
-use equality::equal;
+use equality::equal_many;
 use joins::areas::is_shorter;
 use joins::areas::length_of;
 use joins::areas::number_of;
@@ -45,9 +45,9 @@ pub fn count(order: Order, pattern: &[u8], from: usize, work: &mut [u32], rules:
         };
     }
     let n = place_pattern(order, pattern, work);
+    let before = passed_over(work, m, from, rules);
     let tests = count_rules(work, m, n, rules);
     let all = number_of(work, rules - 1);
-    let before = passed_over(work, m, from, rules);
     Totals {
         occurrences: all - before,
         tests: tests,
@@ -56,8 +56,8 @@ pub fn count(order: Order, pattern: &[u8], from: usize, work: &mut [u32], rules:
 
 // How many occurrences of the pattern, m samples, begin before place `from` of the text: none, or the one at its start.
 fn passed_over(work: &[u32], m: usize, from: usize, rules: usize) -> usize
-    requires { ⌜ ((n : ℕ) × Counts m n rules rules (now work) × (from ≤ 1)) ⌝ }
-    ensures { λ k. ⌜ ((o : Order) (p text : List ℕ) (chair n : ℕ) → Counting o p text chair m n rules (now (work .entry)) → rules ≡ ruleCount (tableOf o text chair) → k + length (occurrences p (drop from text)) ≡ length (occurrences p text)) ⌝ }
+    requires { ⌜ ((n : ℕ) × Counts m n rules 0 (now work) × (from ≤ 1)) ⌝ }
+    ensures { λ k. ⌜ ((o : Order) (p text : List ℕ) (chair n : ℕ) → Counting o p text chair m n 0 (now (work .entry)) → rules ≡ ruleCount (tableOf o text chair) → k + length (occurrences p (drop from text)) ≡ length (occurrences p text)) ⌝ }
 {
     if from == 0 {
         return 0;
@@ -65,7 +65,10 @@ fn passed_over(work: &[u32], m: usize, from: usize, rules: usize) -> usize
     if length_of(work, rules - 1) <= m {
         return 0;
     }
-    if equal(&work[1..m + 1], &work[PATTERN..PATTERN + m]) {
+    if work[1] != work[PATTERN] {
+        return 0;
+    }
+    if equal_many(&work[1..m + 1], &work[PATTERN..PATTERN + m]) {
         return 1;
     }
     0

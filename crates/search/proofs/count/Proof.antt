@@ -11,7 +11,7 @@ use Rattle.definitions.specs.Occurrences.{occurrences, tests}
 use Rattle.lyndon.specs.Stored.{rule-range}
 use Rattle.layout.specs.Layout.{FOUND, lengthIn}
 use Rattle.state.specs.State.{Loaded}
-use Rattle.rule_finds.specs.Searching.{Counting}
+use Rattle.rule_finds.specs.Searching.{Counting, Counts}
 use Rattle.rule_finds.proofs.Short.{short-text, short-search, short-all}
 use Rattle.search.proofs.Starting.{pattern-here, counted-text, counted-all}
 use Rattle.search.proofs.count.Statement.{statement}
@@ -50,10 +50,15 @@ place-pattern-requires c κs =
     let s = c .before .before .before .before .before .before in
     (s .pre .1, s .pre .2, s .pre .0 .loaded .kept .long)
 
-count-rules-requires : tie.Need-count-rules-requires
-count-rules-requires c κs =
-    let p = c .before .before .before in
-    let s = p .before .before .before .before .before .before .before in
+-- where the calls behind the placed pattern start from
+abbrev placed-start : tie.After-place-pattern → tie.Start
+placed-start p = p .before .before .before .before .before .before .before
+
+-- nothing is counted yet
+placed : (p : tie.After-place-pattern) → let a = placed-start p .args in
+    Counts (length (a .pattern .now)) (p .place-pattern .result) (a .rules) 0 (p .place-pattern .last .1 .1 .0)
+placed p =
+    let s = placed-start p in
     let h = s .pre .0 in
     record {
       order = s .args .order;
@@ -64,9 +69,20 @@ count-rules-requires c κs =
       size = h .size;
     }
 
--- where the last calls start from
+passed-over-requires : tie.Need-passed-over-requires
+passed-over-requires c κs =
+    let p = c .before .before .before in
+    (p .place-pattern .result, placed p, placed-start p .pre .3)
+
+count-rules-requires : tie.Need-count-rules-requires
+count-rules-requires c κs = placed (c .before .before .before .before .before)
+
+-- the pattern that is placed
+abbrev pattern-of : tie.After-count-rules → tie.After-place-pattern
+pattern-of c = c .before .before .before .before .before .before
+
 abbrev number-start : tie.After-count-rules → tie.Start
-number-start c = c .before .before .before .before .before .before .before .before .before .before .before
+number-start c = placed-start (pattern-of c)
 
 number-of-requires : tie.Need-number-of-requires
 number-of-requires c κs =
@@ -76,57 +92,41 @@ number-of-requires c κs =
 -- every rule is counted, whatever text is loaded, and the tests are
 all-counted : (r : tie.After-count-rules) → let a = number-start r .args in
     (text : List ℕ) (chair : ℕ) → Loaded (a .order) text chair (a .work .now) → a .rules ≡ ruleCount (tableOf (a .order) text chair)
-    → Counting (a .order) (a .pattern .now) text chair (length (a .pattern .now)) (r .before .before .before .before .place-pattern .result) (a .rules) (r .count-rules .last .0)
+    → Counting (a .order) (a .pattern .now) text chair (length (a .pattern .now)) (pattern-of r .place-pattern .result) (a .rules) (r .count-rules .last .0)
     × (r .count-rules .result ≡ length (tests (a .order) (tableOf (a .order) text chair) (a .pattern .now)))
 all-counted r text chair h e =
     let a = number-start r .args in
-    r .count-rules .ensures (a .order) (a .pattern .now) text chair (r .before .before .before .before .place-pattern .ensures text chair h) e
-
-passed-over-requires : tie.Need-passed-over-requires
-passed-over-requires c κs =
-    let r = c .before .before .before .before .before in
-    let s = number-start r in
-    let h = s .pre .0 in (
-      r .before .before .before .before .place-pattern .result,
-      record {
-        order = s .args .order;
-        samples = s .args .pattern .now;
-        text = h .text;
-        chair = h .chair;
-        counting = all-counted r (h .text) (h .chair) (h .loaded) (h .size) .0;
-        size = h .size;
-      },
-      s .pre .3,
-    )
+    r .count-rules .ensures (a .order) (a .pattern .now) text chair (pattern-of r .place-pattern .ensures text chair h) e
 
 -- how many begin before, and how many are counted
-both : (c : tie.After-passed-over) → let r = c .before .before .before .before .before .before in
+both : (c : tie.After-number-of) → let r = c .before .before .before .before in
     let a = number-start r .args in
     (text : List ℕ) (chair : ℕ) → Loaded (a .order) text chair (a .work .now) → a .rules ≡ ruleCount (tableOf (a .order) text chair)
-    → c .passed-over .result + length (occurrences (a .pattern .now) (drop (a .from) text)) ≡ c .before .before .number-of .result
+    → r .before .before .passed-over .result + length (occurrences (a .pattern .now) (drop (a .from) text)) ≡ c .number-of .result
 both c text chair h e =
-    let r = c .before .before .before .before .before .before in
+    let r = c .before .before .before .before in
     let s = number-start r in
     let a = s .args in
-    let n = r .before .before .before .before .place-pattern .result in
+    let q = pattern-of r in
+    let n = q .place-pattern .result in
     let w = r .count-rules .last .0 in
     let (counted, _) = all-counted r text chair h e in
     let all = counted-all (a .order) (a .pattern .now) text chair _ n (a .rules) w e counted in
-    c .passed-over .ensures (a .order) (a .pattern .now) text chair n counted e
-    ∙ sym (c .before .before .number-of .ensures ∙ counted-text (a .order) (a .pattern .now) text chair (a .rules) w (range s .0) e all)
+    r .before .before .passed-over .ensures (a .order) (a .pattern .now) text chair n (q .place-pattern .ensures text chair h) e
+    ∙ sym (c .number-of .ensures ∙ counted-text (a .order) (a .pattern .now) text chair (a .rules) w (range s .0) e all)
 
 sub-all : tie.Need-sub-t14
 sub-all c =
-    let s = number-start (c .before .before .before .before .before .before) in
+    let s = number-start (c .before .before .before .before) in
     let h = s .pre .0 in
     omega (arith, both c (h .text) (h .chair) (h .loaded) (h .size))
 
 returns-2 : tie.Need-returns-2
 returns-2 c text chair h e =
-    let r = c .before .before .before .before .before .before in
+    let r = c .before .before .before .before in
     let a = number-start r .args in
     let (counted, tests) = all-counted r text chair h e in
-    let all = counted-all (a .order) (a .pattern .now) text chair _ (r .before .before .before .before .place-pattern .result) (a .rules) (r .count-rules .last .0) e counted in
+    let all = counted-all (a .order) (a .pattern .now) text chair _ (pattern-of r .place-pattern .result) (a .rules) (r .count-rules .last .0) e counted in
     (omega (arith, both c text chair h e), tests, all)
 
 pub count-spec : {M : Type 1} → statement M
@@ -135,4 +135,4 @@ count-spec =
     (tie.spec (λ c. omega (arith, range (c .before .before .before))) is-shorter-requires
     (λ c. omega (arith, range (c .before .before .before .before .before))) (λ c. omega arith) (λ c. omega arith)
     (λ c. let s = c .before .before .before .before .before in omega (arith, range s, s .pre .0 .loaded .kept .long)) (λ c κs. tt) (λ c. search needs) returns
-    place-pattern-requires count-rules-requires (λ c. omega (arith, range (number-start (c .before .before .before)))) number-of-requires passed-over-requires sub-all (λ c. search needs) returns-2)
+    place-pattern-requires passed-over-requires count-rules-requires (λ c. omega (arith, range (number-start (c .before .before .before)))) number-of-requires sub-all (λ c. search needs) returns-2)
