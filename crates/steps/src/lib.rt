@@ -4,8 +4,9 @@
 use std::num::wrapping_add_u8;
 use std::num::wrapping_sub_u8;
 ghost use mathlib.Core.Path.{_≡_};
-ghost use Prim.Native.Nat.{_≤_};
-ghost use lib.ListN.{length};
+ghost use mathlib.Core.List.{_∷_};
+ghost use Prim.Native.Nat.{_≤_, _<_};
+ghost use lib.ListN.{length, getD};
 ghost use Rattle.definitions.specs.Words.{placed};
 ghost use Rattle.definitions.specs.Steps.{toSteps, fromSteps};
 
@@ -14,14 +15,22 @@ pub fn rearrange(text: &[u8], steps: &mut [u8])
     requires { ⌜ length (now text) ≤ length (now steps) ⌝ }
     ensures { λ _. ⌜ now (steps .exit) ≡ placed (toSteps (now (text .entry))) (now (steps .entry)) ⌝ }
 {
-    let mut before = 0;
     let mut i = 0;
     while i < text.len() {
-        let sample = text[i];
-        steps[i] = wrapping_sub_u8(sample, before);
-        before = sample;
+        steps[i] = wrapping_sub_u8(text[i], sample_before(text, i));
         i += 1;
     }
+}
+
+// The sample before place i.
+fn sample_before(text: &[u8], i: usize) -> u8
+    requires { ⌜ i < length (now text) ⌝ }
+    ensures { λ r. ⌜ r ≡ getD (0 ∷ now (text .entry)) i 0 ⌝ }
+{
+    if i == 0 {
+        return 0;
+    }
+    text[i - 1]
 }
 
 // Writes the drive restored to the front of a slice.
