@@ -34,7 +34,7 @@ fn measured_library(given: &mut Given) -> u64 {
     let (table, m) = (given.table.as_ptr(), given.table.len());
     let (pattern, p) = (given.pattern.as_ptr(), given.pattern.len());
     let (work, w) = (given.work.as_mut_ptr(), given.work.len());
-    let reply = unsafe { sirbolta_count(table, m, pattern, p, work, w) };
+    let reply = unsafe { sirbolta_count(table, m, 0, pattern, p, work, w) };
     assert!(reply.number == 0);
     reply.count
 }

@@ -1,11 +1,13 @@
 //! One call of a service under callgrind: `bench SIDE SERVICE FAMILY SAMPLES [PATTERN [KIND]]`. SIDE is `library` or `rust`; SERVICE is `build`,
 //! `check`, `read`, `copied` (reading, beside a Rust that copies the text), `extract` (the whole text), `count`, `locate`, `cuts` (the live cuts of
-//! the pattern that a search tries), `lyndon_length` (at the first position), `lyndon_array`, `to_signed` (of the former table), or `doubling`: the
-//! check of a table of SAMPLES rules that double. FAMILY 100 + m is a block of m random bytes, repeated. The pattern is the PATTERN samples in the
-//! middle of the text; with the KIND `nested` so many nested samples; with @i as KIND so many from position i on; and with a number k so many that
-//! are a^k, then b up to the last one, and a. It prints the answer, the number of tests, and a checksum of each lent slice afterwards, which
-//! `bench/run` compares between the sides. The lent slices hold other values before the call. The SERVICE `compared` calls nothing: it prints how
-//! many pairs of samples the Rust side compares to list the pattern's cuts.
+//! the pattern that a search tries), `lyndon_length` (at the first position), `lyndon_array`, `to_signed` (of the former table), `to_steps`,
+//! `from_steps` (of the text that is rearranged), or `doubling`: the check of a table of SAMPLES rules that double. With `count:steps` and
+//! `locate:steps` the text is rearranged before its table is built, and the pattern searched by its steps; with `count:samples` and
+//! `locate:samples` the pattern's steps are searched in that table, as samples. FAMILY 100 + m is a block of m random bytes, repeated. The pattern
+//! is the PATTERN samples in the middle of the text; with the KIND `nested` so many nested samples; with @i as KIND so many from position i on; and
+//! with a number k so many that are a^k, then b up to the last one, and a. It prints the answer, the number of tests, and a checksum of each lent
+//! slice afterwards, which `bench/run` compares between the sides. The lent slices hold other values before the call. The SERVICE `compared` calls
+//! nothing: it prints how many pairs of samples the Rust side compares to list the pattern's cuts.
 
 mod baseline;
 mod compared;
@@ -17,6 +19,7 @@ mod inputs;
 #[path = "../tests/library.rs"]
 mod library;
 mod search;
+mod steps;
 mod tables;
 mod texts;
 
@@ -31,6 +34,7 @@ struct Given {
     service: String,
     text: Vec<u8>,
     table: Vec<u32>,
+    form: u32,
     pattern: Vec<u8>,
 }
 
@@ -60,12 +64,14 @@ fn measured_library(given: &Given, lent: &mut Lent) -> Found {
             "check" | "doubling" => replied(sirbolta_check(table, m, work, w)),
             "read" | "copied" => replied(sirbolta_read(table, m, work, w, bytes, b)),
             "extract" => replied(sirbolta_extract(table, m, 0, n, work, w, bytes, b)),
-            "count" => found(sirbolta_count(table, m, pattern, p, work, w)),
-            "locate" => found(sirbolta_locate(table, m, pattern, p, work, w, words, k)),
+            "count" => found(sirbolta_count(table, m, given.form, pattern, p, work, w)),
+            "locate" => found(sirbolta_locate(table, m, given.form, pattern, p, work, w, words, k)),
             "cuts" => replied(sirbolta_live_cuts(pattern, p, words, k)),
             "lyndon_length" => replied(sirbolta_lyndon_length(table, m, 0, work, w)),
             "lyndon_array" => replied(sirbolta_lyndon_array(table, m, work, w, words, k)),
             "to_signed" => replied(sirbolta_to_signed(table, m, work, w, words, k)),
+            "to_steps" => replied(sirbolta_to_steps(text, n, bytes, b)),
+            "from_steps" => replied(sirbolta_from_steps(text, n, bytes, b)),
             service => panic!("no service {service}"),
         }
     }
@@ -82,7 +88,7 @@ fn found(r: SearchReply) -> Found {
 #[no_mangle]
 #[inline(never)]
 fn measured_rust(given: &Given, lent: &mut Lent) -> Found {
-    let Given { service, text, table, pattern } = given;
+    let Given { service, text, table, form, pattern } = given;
     let Lent { work, words, bytes } = lent;
     match service.as_str() {
         "build" => baseline::build(text, CHAIR, work, words).into(),
@@ -90,12 +96,14 @@ fn measured_rust(given: &Given, lent: &mut Lent) -> Found {
         "read" => tables::read(table, work, bytes).into(),
         "copied" => tables::copied(table, work, bytes).into(),
         "extract" => tables::extract(table, 0, text.len(), work, bytes).into(),
-        "count" => search::count(table, pattern, work),
-        "locate" => search::locate(table, pattern, work, words),
+        "count" => search::count(table, *form, pattern, work),
+        "locate" => search::locate(table, *form, pattern, work, words),
         "cuts" => search::live_cuts(pattern, words).into(),
         "lyndon_length" => tables::lyndon_length(table, 0, work).into(),
         "lyndon_array" => tables::lyndon_array(table, work, words).into(),
         "to_signed" => tables::to_signed(table, work, words).into(),
+        "to_steps" => steps::to_steps(text, bytes).into(),
+        "from_steps" => steps::from_steps(text, bytes).into(),
         service => panic!("no service {service}"),
     }
 }
@@ -103,18 +111,25 @@ fn measured_rust(given: &Given, lent: &mut Lent) -> Found {
 fn main() {
     let args: Vec<String> = std::env::args().collect();
     let number = |i: usize| args.get(i).map_or(0, |s| s.parse::<usize>().unwrap());
-    let (service, family, size) = (args[2].clone(), number(3), number(4));
-    let text = texts::text(family, size.min(2047));
-    let table = match service.as_str() {
+    let (family, size) = (number(3), number(4));
+    let (service, way) = args[2].split_once(':').unwrap_or((&args[2], ""));
+    let mut text = texts::text(family, size.min(2047));
+    let mut pattern = pattern(&text, number(5), args.get(6).map(String::as_str));
+    if service == "compared" {
+        return println!("{}", compared::compared(&pattern));
+    }
+    if way != "" || service == "from_steps" {
+        text = rearranged(&text);
+    }
+    if way == "samples" {
+        pattern = rearranged(&pattern)[1..].to_vec();
+    }
+    let table = match service {
         "doubling" => doubling(size as u32),
         "to_signed" => former_table(&text, table_of),
         _ => table_of(&text),
     };
-    let pattern = pattern(&text, number(5), args.get(6).map(String::as_str));
-    if service == "compared" {
-        return println!("{}", compared::compared(&pattern));
-    }
-    let given = Given { service, text, table, pattern };
+    let given = Given { service: service.to_string(), text, table, form: (way == "steps") as u32, pattern };
     let mut lent = lent();
     let measured = if args[1] == "library" { measured_library } else { measured_rust };
     let Found { answer, tests } = measured(&given, &mut lent);
@@ -146,6 +161,13 @@ fn table_of(text: &[u8]) -> Vec<u32> {
     let (_, _, words, _) = baseline::build(text, CHAIR, &mut lent.work, &mut lent.words);
     lent.words.truncate(words as usize);
     lent.words
+}
+
+/// A drive rearranged: its first sample, then its steps.
+fn rearranged(drive: &[u8]) -> Vec<u8> {
+    let mut s = vec![0; drive.len()];
+    steps::rearrange(drive, &mut s);
+    s
 }
 
 /// A table of so many rules, in shape, whose strings double from rule to rule and which no text has.

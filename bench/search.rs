@@ -1,12 +1,29 @@
 //! The library's search in Rust: the cuts of a pattern that are listed, counting, listing.
 
 use crate::baseline::*;
+use crate::steps::rearrange;
 use crate::tables::{value, with_loaded};
 
 // The areas of the work slice during a search; what is loaded stays where it is.
 const FOUND: usize = 6656;
 const PATTERN: usize = 8960;
 const CUTS: usize = 11008;
+
+/// What a table holds: the samples of a drive, or its steps.
+#[derive(Clone, Copy)]
+enum Content {
+    Samples,
+    Steps,
+}
+
+/// What it holds as its form says.
+fn content_of(form: u32) -> Content {
+    if form % 2 == 1 {
+        Content::Steps
+    } else {
+        Content::Samples
+    }
+}
 
 /// A sample of a pattern: a byte, or one whose comparisons are counted.
 pub trait Sample: Copy + PartialEq {
@@ -129,6 +146,17 @@ fn pattern_refused(pattern: &[u8]) -> Option<Answer> {
         return Some(refused(3, 0));
     }
     None
+}
+
+/// The refusal of a pattern that is searched for, if it has one: where a table holds steps, one sample is refused too.
+fn search_refused(content: Content, pattern: &[u8]) -> Option<Answer> {
+    if let Some(a) = pattern_refused(pattern) {
+        return Some(a);
+    }
+    match content {
+        Content::Steps if pattern.len() == 1 => Some(refused(10, 0)),
+        _ => None,
+    }
 }
 
 /// The listed cuts of a pattern.
@@ -261,8 +289,19 @@ fn count_rules(work: &mut [u32], m: usize, n: usize, rules: usize) -> usize {
     tests
 }
 
-/// Counts the occurrences of a pattern in the text that is loaded, and the tests; none, where the root's string is shorter.
-fn count_loaded(pattern: &[u8], work: &mut [u32], rules: usize) -> (usize, usize) {
+/// How many occurrences of the pattern, m samples, begin before place `from` of the text: none, or the one at its start.
+fn passed_over(work: &[u32], m: usize, from: usize, rules: usize) -> usize {
+    if from == 0 || word(work, LENGTHS, rules - 1) <= m {
+        return 0;
+    }
+    if equal(part(work, 1, m + 1), part(work, PATTERN, PATTERN + m)) {
+        return 1;
+    }
+    0
+}
+
+/// Counts the occurrences of a pattern in the text that is loaded, from place `from` on, and the tests; none, where the root's string is shorter.
+fn count_from(from: usize, pattern: &[u8], work: &mut [u32], rules: usize) -> (usize, usize) {
     let m = pattern.len();
     if at(work, LENGTHS + rules - 1) < m as u32 {
         clear(work, FOUND, FOUND + rules);
@@ -273,49 +312,69 @@ fn count_loaded(pattern: &[u8], work: &mut [u32], rules: usize) -> (usize, usize
     let n = list(pattern, unsafe { work.get_unchecked_mut(CUTS..CUTS + k + 1) });
     put(work, CUTS + n, 4096);
     let tests = count_rules(work, m, n, rules);
-    (word(work, FOUND, rules - 1) / 4096, tests)
+    let all = word(work, FOUND, rules - 1) / 4096;
+    (all - passed_over(work, m, from, rules), tests)
+}
+
+/// Counts the finds of a pattern in the text that is loaded, and the tests.
+fn count_loaded(content: Content, pattern: &[u8], work: &mut [u32], rules: usize) -> (usize, usize) {
+    match content {
+        Content::Samples => count_from(0, pattern, work, rules),
+        Content::Steps => count_steps(pattern, work, rules),
+    }
+}
+
+/// The same where the text is steps: the pattern's own stand behind its first sample, once it is rearranged.
+fn count_steps(pattern: &[u8], work: &mut [u32], rules: usize) -> (usize, usize) {
+    let mut steps = [0; 2047];
+    rearrange(pattern, &mut steps);
+    count_from(1, unsafe { steps.get_unchecked(1..pattern.len()) }, work, rules)
 }
 
 fn searched(count: usize, tests: usize) -> Found {
     Found { answer: done(count, 0), tests: tests as u64 }
 }
 
-/// The number of occurrences of a pattern in the text of a table.
+/// The number of finds of a pattern in the drive of a table that holds what the form says.
 #[inline(never)]
-pub fn count(table: &[u32], pattern: &[u8], work: &mut [u32]) -> Found {
-    if let Some(a) = pattern_refused(pattern) {
+pub fn count(table: &[u32], form: u32, pattern: &[u8], work: &mut [u32]) -> Found {
+    let content = content_of(form);
+    if let Some(a) = search_refused(content, pattern) {
         return a.into();
     }
     with_loaded(Order::Signed, table, work, |work| {
-        let (n, tests) = count_loaded(pattern, work, table.len() / 2);
+        let (n, tests) = count_loaded(content, pattern, work, table.len() / 2);
         searched(n, tests)
     })
 }
 
-/// Writes the occurrence at a place of the marked text as entry n. Answers where the next goes.
-fn list_one(result: &mut [u32], n: usize, place: usize) -> usize {
-    put(result, n, if place == 0 { 0 } else { (place - 1) as u32 });
+/// Writes the occurrence at a place of the marked text as entry n, counted from `first` on; none if it is before that. Answers where the next goes.
+fn list_one(result: &mut [u32], n: usize, first: usize, place: usize) -> usize {
+    if place < first {
+        return n;
+    }
+    put(result, n, (place - first) as u32);
     n + 1
 }
 
 /// The same for the occurrence that begins c symbols before a join, none if c is 0.
-fn list_cut(result: &mut [u32], n: usize, join: usize, c: usize) -> usize {
+fn list_cut(result: &mut [u32], n: usize, first: usize, join: usize, c: usize) -> usize {
     if c == 0 {
         return n;
     }
-    list_one(result, n, join - c)
+    list_one(result, n, first, join - c)
 }
 
 /// The same for the occurrences in rule r, whose string stands at a place: left half and join, and so on down the right halves.
-fn list_rule(work: &[u32], r: usize, place: usize, result: &mut [u32], n: usize) -> usize {
+fn list_rule(work: &[u32], r: usize, place: usize, first: usize, result: &mut [u32], n: usize) -> usize {
     let (mut rest, mut place, mut n) = (r, place, n);
     while word(work, FOUND, rest) / 4096 != 0 {
         let Some((u, v)) = halves(work, rest) else {
-            return list_one(result, n, place);
+            return list_one(result, n, first, place);
         };
         let (join, cut) = (place + word(work, LENGTHS, u), word(work, FOUND, rest) % 4096);
-        n = list_half(work, u, place, result, n);
-        n = list_cut(result, n, join, cut);
+        n = list_half(work, u, place, first, result, n);
+        n = list_cut(result, n, first, join, cut);
         place = join;
         rest = v;
     }
@@ -323,29 +382,38 @@ fn list_rule(work: &[u32], r: usize, place: usize, result: &mut [u32], n: usize)
 }
 
 /// The same for a left half: a call only for a pair that has occurrences.
-fn list_half(work: &[u32], r: usize, place: usize, result: &mut [u32], n: usize) -> usize {
+fn list_half(work: &[u32], r: usize, place: usize, first: usize, result: &mut [u32], n: usize) -> usize {
     if word(work, FOUND, r) / 4096 == 0 {
         return n;
     }
     if halves(work, r).is_none() {
-        return list_one(result, n, place);
+        return list_one(result, n, first, place);
     }
-    list_rule(work, r, place, result, n)
+    list_rule(work, r, place, first, result, n)
 }
 
-/// The occurrences of a pattern in the text of a table.
+/// The place of the marked text from which finds are listed: behind the mark and, where the text is steps, behind the kept first sample.
+fn first_of(content: Content) -> usize {
+    match content {
+        Content::Samples => 1,
+        Content::Steps => 2,
+    }
+}
+
+/// The finds of a pattern in the drive of a table that holds what the form says.
 #[inline(never)]
-pub fn locate(table: &[u32], pattern: &[u8], work: &mut [u32], result: &mut [u32]) -> Found {
-    if let Some(a) = pattern_refused(pattern) {
+pub fn locate(table: &[u32], form: u32, pattern: &[u8], work: &mut [u32], result: &mut [u32]) -> Found {
+    let content = content_of(form);
+    if let Some(a) = search_refused(content, pattern) {
         return a.into();
     }
     with_loaded(Order::Signed, table, work, |work| {
         let rules = table.len() / 2;
-        let (n, tests) = count_loaded(pattern, work, rules);
+        let (n, tests) = count_loaded(content, pattern, work, rules);
         if result.len() < n {
             return refused(9, n).into();
         }
-        list_rule(work, rules - 1, 0, result, 0);
+        list_rule(work, rules - 1, 0, first_of(content), result, 0);
         searched(n, tests)
     })
 }

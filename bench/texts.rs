@@ -1,5 +1,5 @@
 //! Eight families of texts, one that is slow to list the cuts of, drives of a switch joystick, two whose middle has hundreds of live cuts, two with
-//! many tests behind a hit, and repeated blocks of any length.
+//! many tests behind a hit, one whose steps are one of the eight, and repeated blocks of any length.
 
 /// A small generator of numbers, the same in every run.
 struct Numbers(u64);
@@ -18,7 +18,7 @@ impl Numbers {
     }
 }
 
-pub const FAMILIES: [&str; 14] = [
+pub const FAMILIES: [&str; 15] = [
     "random bytes",
     "two symbols",
     "rests and ramps",
@@ -33,6 +33,7 @@ pub const FAMILIES: [&str; 14] = [
     "a^k b a^2k b^k",
     "(w z^28)^j",
     "(a^15 b)^j",
+    "Fibonacci steps",
 ];
 
 /// A family BLOCKS + m has a block of m random bytes, repeated.
@@ -88,6 +89,15 @@ fn fibonacci(n: usize) -> Vec<u8> {
     b
 }
 
+/// The drive that is rearranged to this text. The last 1,060 of 2,047 samples of Fibonacci are also its first: these steps stand at the kept first sample too.
+fn restored(steps: &[u8]) -> Vec<u8> {
+    let add = |sum: &mut u8, &step: &u8| {
+        *sum = sum.wrapping_add(step);
+        Some(*sum)
+    };
+    steps.iter().scan(0, add).collect()
+}
+
 /// 0, and then x y for every x below y, the largest pair first: Lyndon words of two samples that fall.
 fn falling(n: usize) -> Vec<u8> {
     let pairs = (0..255u8).rev().flat_map(|x| (x + 1..=255).rev().map(move |y| [x, y]));
@@ -129,6 +139,7 @@ pub fn text(family: usize, n: usize) -> Vec<u8> {
         11 => two_rests(n),
         12 => repeated(&nested_and_rest(), n),
         13 => repeated(&run(15), n),
+        14 => restored(&fibonacci(n)),
         _ => repeated(&(BLOCKS..family).map(|_| numbers.sample()).collect::<Vec<u8>>(), n),
     }
 }
