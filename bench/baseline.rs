@@ -133,7 +133,7 @@ fn equal_by_sixteen(x: &[u32], y: &[u32]) -> bool {
 
 /// Whether all words are the same: the loop goes to the end.
 #[inline(always)]
-fn equal_many(x: &[u32], y: &[u32]) -> bool {
+pub fn equal_many(x: &[u32], y: &[u32]) -> bool {
     let mut alike = true;
     let mut i = 0;
     while i < x.len() {

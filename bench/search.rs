@@ -291,10 +291,10 @@ fn count_rules(work: &mut [u32], m: usize, n: usize, rules: usize) -> usize {
 
 /// How many occurrences of the pattern, m samples, begin before place `from` of the text: none, or the one at its start.
 fn passed_over(work: &[u32], m: usize, from: usize, rules: usize) -> usize {
-    if from == 0 || word(work, LENGTHS, rules - 1) <= m {
+    if from == 0 || word(work, LENGTHS, rules - 1) <= m || at(work, 1) != at(work, PATTERN) {
         return 0;
     }
-    if equal(part(work, 1, m + 1), part(work, PATTERN, PATTERN + m)) {
+    if equal_many(part(work, 1, m + 1), part(work, PATTERN, PATTERN + m)) {
         return 1;
     }
     0
@@ -311,9 +311,9 @@ fn count_from(from: usize, pattern: &[u8], work: &mut [u32], rules: usize) -> (u
     let k = floor_log2(m);
     let n = list(pattern, unsafe { work.get_unchecked_mut(CUTS..CUTS + k + 1) });
     put(work, CUTS + n, 4096);
+    let before = passed_over(work, m, from, rules);
     let tests = count_rules(work, m, n, rules);
-    let all = word(work, FOUND, rules - 1) / 4096;
-    (all - passed_over(work, m, from, rules), tests)
+    (word(work, FOUND, rules - 1) / 4096 - before, tests)
 }
 
 /// Counts the finds of a pattern in the text that is loaded, and the tests.
