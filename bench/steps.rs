@@ -4,22 +4,25 @@ use crate::baseline::*;
 
 /// Rearranges a drive: its steps at the front. The sample before the first is taken to be 0.
 pub fn rearrange(text: &[u8], steps: &mut [u8]) {
-    let (mut before, mut i) = (0u8, 0);
+    let mut i = 0;
     while i < text.len() {
-        let sample = at(text, i);
-        put(steps, i, sample.wrapping_sub(before));
-        before = sample;
+        put(steps, i, at(text, i).wrapping_sub(sample_before(text, i)));
         i += 1;
     }
 }
 
+/// The sample before place i.
+fn sample_before(text: &[u8], i: usize) -> u8 {
+    if i == 0 { 0 } else { at(text, i - 1) }
+}
+
 /// Restores a drive that was rearranged, at the front.
 fn restore(steps: &[u8], text: &mut [u8]) {
-    let (mut before, mut i) = (0u8, 0);
+    let (mut last, mut i) = (0u8, 0);
     while i < steps.len() {
-        let sample = before.wrapping_add(at(steps, i));
+        let sample = last.wrapping_add(at(steps, i));
         put(text, i, sample);
-        before = sample;
+        last = sample;
         i += 1;
     }
 }
