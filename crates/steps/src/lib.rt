@@ -17,7 +17,8 @@ pub fn rearrange(text: &[u8], steps: &mut [u8])
 {
     let mut i = 0;
     while i < text.len() {
-        steps[i] = wrapping_sub_u8(text[i], sample_before(text, i));
+        let before = sample_before(text, i);
+        steps[i] = wrapping_sub_u8(text[i], before);
         i += 1;
     }
 }

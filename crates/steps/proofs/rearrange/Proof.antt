@@ -22,8 +22,8 @@ loop-holds c = (omega arith, refl, sym (placed-none (c .before .before .args .st
 
 loop-again : tie.Need-loop-again Inv-loop μ-loop
 loop-again c =
-    let f = c .before in
-    let at = f .before .before .before in
+    let f = c .before .before in
+    let at = f .before .before in
     let a = at .before .before .before .args in
     let i = at .loop .i in (
       omega arith,
@@ -41,5 +41,5 @@ returns c =
 pub rearrange-spec : {M : Type 1} → statement M
 rearrange-spec =
     tie.close
-    (tie.spec Inv-loop μ-loop loop-holds (λ c. omega arith) (λ c κs. omega arith) (λ c κs. tt) (λ c. omega arith) (λ c. omega arith) (λ c. omega arith)
+    (tie.spec Inv-loop μ-loop loop-holds (λ c κs. omega arith) (λ c. omega arith) (λ c κs. tt) (λ c. omega arith) (λ c. omega arith) (λ c. omega arith)
     loop-again (λ c. c .before .loop .inv .1) returns)
