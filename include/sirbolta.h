@@ -68,6 +68,7 @@ typedef struct { uint32_t number; uint32_t chair; uint64_t place; uint64_t count
  * with a cut of the pattern that sirbolta_live_cuts lists, where the left half has at least as many symbols as the pattern has samples before the cut, and the
  * right half at least as many as it has from the cut on. Symbols are the samples and the mark, which stands before them. A rule counts once, however often its
  * string stands in the text. A pattern of one sample has no test; one of m samples in a text of n has at most n + 2 - m, none where that would be negative.
+ * Where the table holds steps, the pattern's m - 1 steps are the pattern here: at most n + 3 - m.
  */
 typedef struct { uint32_t number; uint32_t chair; uint64_t place; uint64_t count; uint64_t tests; } sirbolta_search_reply;
 

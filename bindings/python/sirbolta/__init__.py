@@ -238,7 +238,7 @@ def count_with_tests(table: Words, pattern: Samples, *, steps: bool = False) -> 
     A test is a pair rule of the table, one with a left and a right half, together with a cut of the pattern that `live_cuts` lists, where the left half has at
     least as many symbols as the pattern has samples before the cut, and the right half at least as many as it has from the cut on. Symbols are the samples and the
     mark, which stands before them. A rule counts once, however often its string stands in the text. A pattern of one sample has no test; one of m samples in a text
-    of n has at most n + 2 - m, none where that would be negative.
+    of n has at most n + 2 - m, none where that would be negative. Where the table holds steps, the pattern's m - 1 steps are the pattern here: at most n + 3 - m.
 
     >>> count_with_tests(build(b"abab", chair=40), b"ab")
     (2, 3)

@@ -321,6 +321,7 @@ samples =
     ∷ ends (countService sampleOrder [] Steps (a ∷ a ∷ []) []) 4 0 0 0
     ∷ ends (countService sampleOrder [] Samples (a ∷ []) []) 4 0 0 0
     ∷ ends (locateService sampleOrder [] Steps (a ∷ []) [] []) 10 0 0 0
+    ∷ ends (locateService sampleOrder ofSteps Steps (254 ∷ 0 ∷ 2 ∷ []) room (replicate 1 7)) 0 0 1 5
     ∷ ends (locateService sampleOrder ofSteps Steps (0 ∷ 2 ∷ []) room (replicate 2 7)) 9 3 0 0
     ∷ ends (toStepsService moved (replicate 5 7)) 0 0 5 0
     ∷ ends (toStepsService moved (replicate 4 7)) 9 5 0 0

@@ -15,7 +15,7 @@ ghost use Rattle.definitions.specs.Occurrences.{occurrences};
 ghost use Rattle.joins.specs.Joining.{cutPlace};
 ghost use Rattle.listing.specs.Listing.{Finds, inDrive, placedFrom, Listable, Listed, rulesCounted};
 
-// Writes the positions at which the pattern begins in the drive, rising, at the front of a slice: from place `from` of the drive on, and counted from there. Answers how many
+// Writes the positions at which the pattern begins in the drive, rising, at the front of a slice: from place `from` of the text on, and counted from there. Answers how many
 // there are.
 pub fn list(work: &[u32], rules: usize, from: usize, result: &mut [u32]) -> usize
     requires { ⌜ ((h : Finds (now work)) × (rules ≡ rulesCounted h) × (from ≤ 1) × (length (occurrences (h .pattern) (drop from (h .text))) ≤ length (now result))) ⌝ }

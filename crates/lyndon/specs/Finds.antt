@@ -29,7 +29,7 @@ use Rattle.lyndon.specs.Cuts.{Live}
 use Rattle.lyndon.specs.Listed.{WordAgain, listed-cut, listed-rising, listed-twice, Largest, listed-bound}
 use Rattle.lyndon.specs.Joins.{Suffices, listed-suffice}
 use Rattle.lyndon.specs.Occurrences.{BeginsAt, occurrence, occurrences-rising}
-use Rattle.lyndon.specs.Steps.{FollowsAt, follows, steps-rising, two-samples, to-bytes, from-bytes, to-length, restored}
+use Rattle.lyndon.specs.Steps.{FollowsAt, follows, steps-rising, two-samples, to-bytes, from-bytes, to-length, restored, movedBy, moved-bytes, moved-length, drive-moved}
 
 -- what is demanded of the list l of all positions at which something is found
 pub record AllFinds (Found : ℕ → Type 0) (l : List ℕ) : Type 0 where
@@ -156,6 +156,14 @@ pub drive-searched : (o : Order) (p x : List ℕ) (chair : ℕ) → Stored x cha
 unfolding finds
 drive-searched o p x chair ok =
     ap (λ (text : List ℕ). stepFinds p (fromSteps text)) (table-text o (toSteps x) chair (rearranged-stored x chair ok)) ∙ ap (stepFinds p) (restored x (ok .bytes))
+
+-- so the same is found in the tables of two drives that differ by a number added to every sample
+pub table-moved : (o : Order) (k : ℕ) (p x : List ℕ) (chair : ℕ) → Stored x chair
+    → finds Steps p (textOf o (tableOf o (toSteps (movedBy k x)) chair)) ≡ finds Steps p (textOf o (tableOf o (toSteps x) chair))
+table-moved o k p x chair ok =
+    drive-searched o p (movedBy k x) chair (record { short = omega (arith, moved-length k x, ok .short); bytes = moved-bytes k x; chairs = ok .chairs })
+    ∙ drive-moved k p x (ok .bytes)
+    ∙ sym (drive-searched o p x chair ok)
 
 -- ---- the cuts of a pattern
 

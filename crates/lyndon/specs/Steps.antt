@@ -306,7 +306,11 @@ steps-moved k (a ∷ b ∷ x) h =
     (step-same ((a + k) % 256) ((b + k) % 256) a b (omega arith) (omega arith) (h a (here refl)) (h b (there (here refl))) .1 e)
     (steps-moved k (b ∷ x) (tail-bytes h))
 
-moved-bytes : (k : ℕ) (x : List ℕ) → Bytes (movedBy k x)
+pub moved-length : (k : ℕ) (x : List ℕ) → length (movedBy k x) ≡ length x
+unfolding movedBy
+moved-length k x = length-map x (λ b. (b + k) % 256)
+
+pub moved-bytes : (k : ℕ) (x : List ℕ) → Bytes (movedBy k x)
 unfolding movedBy
 moved-bytes k x b m = let (a, n, e) = in-map (λ b. (b + k) % 256) b x m in omega arith
 
