@@ -18,7 +18,7 @@ import threading
 import unittest
 from array import array
 from concurrent.futures import ThreadPoolExecutor
-from contextlib import contextmanager, nullcontext
+from contextlib import contextmanager, nullcontext, redirect_stdout
 from pathlib import Path
 from unittest.mock import ANY, patch
 
@@ -227,6 +227,9 @@ class Refusals(unittest.TestCase):
                     self.assertEqual(pickle.dumps(given), before, "an input was written")
                     self.assertEqual({name: self.ask(name, self.usual) for name in self.answers}, self.answers)
 
+    def test_every_service_is_exported(self):
+        self.assertLessEqual(set(self.CONCERNED), set(sirbolta.__all__))
+
     def test_what_does_not_concern_a_service(self):
         for service, number in [("live_cuts", 4), ("to_steps", 4), ("from_steps", 4), ("check", 9), ("count", 9), ("lyndon_length", 9)]:
             with self.subTest(service=service, number=number), patch.multiple(sirbolta, **self.CHANGED[number]):
@@ -310,6 +313,8 @@ class Module(unittest.TestCase):
             self.wrong_type(sentence, sirbolta.to_steps, samples)
             self.wrong_type(sentence, sirbolta.from_steps, samples)
         self.wrong_type("samples are single bytes", sirbolta.build, array("I"), 40)
+        self.assertRaises(TypeError, sirbolta.count, self.table, b"ab", True)
+        self.assertRaises(TypeError, sirbolta.locate, self.table, b"ab", True)
         for steps in [0, 1, None, "", b"ab", self.table]:
             sentence = f"steps is True or False, not {type(steps).__name__}"
             self.wrong_type(sentence, sirbolta.count, self.table, b"ab", steps=steps)
@@ -680,6 +685,14 @@ class Examples(unittest.TestCase):
     def test_the_readme_shows_many_py(self):
         code = (MODULE / "many.py").read_text().split('"""\n\n', 1)[1]
         self.assertTrue(f"```python\n{code}```" in (ROOT / "README.md").read_text(), "README.md shows another example")
+
+    def test_the_readme_finds_the_motif_of_chair_forty(self):
+        blocks = [block.split("```", 1)[0] for block in (ROOT / "README.md").read_text().split("```python\n")[1:]]
+        (code,) = [block for block in blocks if "from_steps" in block]
+        printed = io.StringIO()
+        with redirect_stdout(printed):
+            exec(code, {"sirbolta": sirbolta})
+        self.assertEqual((printed.getvalue(), code.count("\n")), ("found at [0, 1, 3]\n", 5))
 
 
 if __name__ == "__main__":

@@ -1,4 +1,4 @@
-/* The header as C sees it: the layout of the replies, the interface number, and one call of each function. */
+/* The header as C sees it: the layout of the replies, the interface number, and calls of each function. */
 #include "../include/sirbolta.h"
 
 #include <stdio.h>

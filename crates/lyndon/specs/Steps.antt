@@ -69,7 +69,7 @@ step-same a b c d h k m n = (
   uncrossed a b c d (step a b) (step c d) (step-range a b) (step-range c d) (step-on a b h k) (step-on c d m n),
 )
 
--- ---- there and back
+-- ---- rearranged and restored
 
 tail-bytes : {a : ℕ} {x : List ℕ} → Bytes (a ∷ x) → Bytes x
 tail-bytes h b m = h b (there m)

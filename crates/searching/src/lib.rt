@@ -1,4 +1,4 @@
-// The listed cuts of a pattern; counting its occurrences, and listing them.
+// The listed cuts of a pattern; counting its finds, and listing them.
 use checks::clear_front;
 use checks::pattern_fits;
 use checks::search_fits;
