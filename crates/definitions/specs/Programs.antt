@@ -38,10 +38,10 @@ line l = l ++ (10 ∷ [])
 unfoldable pub named : List ℕ → ℕ → List ℕ
 named name n = name ++ line (decimal n)
 
--- numbers, each on a line
-unfoldable pub decimalLines : List ℕ → List ℕ
-decimalLines [] = []
-decimalLines (n ∷ l) = line (decimal n) ++ decimalLines l
+-- what f gives of each number, on a line each
+unfoldable pub linesOf : (ℕ → List ℕ) → List ℕ → List ℕ
+linesOf f [] = []
+linesOf f (n ∷ l) = line (f n) ++ linesOf f l
 
 -- ---- refusals: every program prints only the number of the first check that is met
 
@@ -79,7 +79,7 @@ foundName = 102 ∷ 111 ∷ 117 ∷ 110 ∷ 100 ∷ 32 ∷ []
 
 -- how many positions there are, and each of them
 unfoldable pub foundLines : List ℕ → List ℕ
-foundLines positions = named foundName (length positions) ++ decimalLines positions
+foundLines positions = named foundName (length positions) ++ linesOf decimal positions
 
 -- the drive is built before the motif is looked at; the chair number is 0
 unfoldable pub motifOutput : Order → List ℕ → List ℕ

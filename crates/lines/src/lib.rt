@@ -7,14 +7,14 @@ ghost use mathlib.Core.Path.{_≡_};
 ghost use Prim.Native.Nat.{_+_, _*_, _≤_};
 ghost use lib.ListN.{length};
 ghost use Rattle.definitions.specs.Words.{placed};
-ghost use Rattle.definitions.specs.Programs.{named, decimalLines};
+ghost use Rattle.definitions.specs.Programs.{decimal, named, linesOf};
 ghost use Rattle.lines.specs.Lines.{refusal};
 
 // Numbers, each on a line.
 pub fn put_decimal_lines(numbers: &[u32], out: &mut [u8]) -> usize
     requires { ⌜ 11 * length (now numbers) ≤ length (now out) ⌝ }
-    ensures { λ n. ⌜ n ≡ length (decimalLines (now (numbers .entry))) ⌝ }
-    ensures { λ _. ⌜ now (out .exit) ≡ placed (decimalLines (now (numbers .entry))) (now (out .entry)) ⌝ }
+    ensures { λ n. ⌜ n ≡ length (linesOf decimal (now (numbers .entry))) ⌝ }
+    ensures { λ _. ⌜ now (out .exit) ≡ placed (linesOf decimal (now (numbers .entry))) (now (out .entry)) ⌝ }
 {
     let mut i = 0;
     let mut n = 0;

@@ -13,9 +13,9 @@ use Rattle.definitions.specs.declared.Answer.the-variants.{Done, Refused}
 use Rattle.definitions.specs.Table.{tableOf, ruleCount}
 use Rattle.definitions.specs.Occurrences.{occurrences}
 use Rattle.definitions.specs.Services.{Check, firstMet, Serves, Answers, textTooLong, sampleOrder, patternChecks}
-use Rattle.definitions.specs.Programs.{named, decimalLines, refusedLine, printed, motifOf, driveOf, inputTooLong, rulesName, foundName, foundLines, motifOutput}
+use Rattle.definitions.specs.Programs.{decimal, named, linesOf, refusedLine, printed, motifOf, driveOf, inputTooLong, rulesName, foundName, foundLines, motifOutput}
 use Rattle.lines.specs.Lines.{refusal}
-use Rattle.lines.proofs.Lines.{named-most, lines-most}
+use Rattle.lines.proofs.Lines.{named-most, decimals-most}
 use Rattle.motif_output.specs.Steps.{driveStep, motifStep, searchOutput, Built}
 use Rattle.lines.proofs.Deciding.{refusal-printed, success-printed, success-written, success-passed}
 
@@ -27,7 +27,7 @@ read-enough o input h =
 
 pub found-most : (l : List ℕ) → length (foundLines l) ≤ 17 + 11 * length l
 unfolding foundLines
-found-most l = omega (arith, length-append (named foundName (length l)) (decimalLines l), named-most foundName (length l), lines-most l)
+found-most l = omega (arith, length-append (named foundName (length l)) (linesOf decimal l), named-most foundName (length l), decimals-most l)
 
 -- ---- the drive
 

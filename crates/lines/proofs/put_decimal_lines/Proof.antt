@@ -6,7 +6,7 @@ use native.Mathlib.Omega.{arith}
 use lib.ListN.{length, take, length-take, length-drop}
 use lib.Seq.{take-length}
 use Rattle.definitions.specs.Words.{placed}
-use Rattle.definitions.specs.Programs.{decimalLines}
+use Rattle.definitions.specs.Programs.{decimal, linesOf}
 use Rattle.decimals.proofs.Digits.{line-most}
 use Rattle.lines.proofs.Lines.{front-most, lines-none, lines-stored}
 use Rattle.lines.proofs.put_decimal_lines.Statement.{statement}
@@ -14,7 +14,7 @@ use Rattle.lines.proofs.put_decimal_lines.Tie as tie
 
 abbrev Inv-loop : tie.InvT-loop
 Inv-loop numbers out₀ i₀ n₀ out i n =
-    (i ≤ length numbers) × (length out ≡ length out₀) × (n ≡ length (decimalLines (take i numbers))) × (out ≡ placed (decimalLines (take i numbers)) out₀)
+    (i ≤ length numbers) × (length out ≡ length out₀) × (n ≡ length (linesOf decimal (take i numbers))) × (out ≡ placed (linesOf decimal (take i numbers)) out₀)
 
 abbrev μ-loop : tie.MeasureT-loop
 μ-loop numbers out₀ i₀ n₀ out i n = length numbers - i
@@ -22,7 +22,7 @@ abbrev μ-loop : tie.MeasureT-loop
 loop-holds : tie.Need-loop-holds Inv-loop μ-loop
 loop-holds c =
     let a = c .before .before .args in
-    let none = lines-none (a .numbers .now) (a .out .now) in
+    let none = lines-none decimal (a .numbers .now) (a .out .now) in
     (omega arith, refl, none .0, none .1)
 
 sub-put-decimal-line : tie.Need-sub-put-decimal-line Inv-loop μ-loop
@@ -55,7 +55,7 @@ loop-again c =
     let l = c .before .before in
     let at = l .before .before .before .before .before in
     let s = at .before .before .before in
-    let more = lines-stored (s .args .numbers .now) (s .args .out .now) (at .loop .out) (l .put-decimal-line .last .1 .0) (at .loop .i) (at .loop .n) (l .put-decimal-line .result) (l .before .before .wide .result) (omega arith) (s .pre) (l .before .before .wide .ensures) (at .loop .inv .2) (at .loop .inv .3) (l .put-decimal-line .ensures .0) (l .put-decimal-line .ensures .1) in
+    let more = lines-stored decimal (s .args .numbers .now) (s .args .out .now) (at .loop .out) (l .put-decimal-line .last .1 .0) (at .loop .i) (at .loop .n) (l .put-decimal-line .result) (l .before .before .wide .result) (omega arith) (omega (arith, s .pre, front-most (s .args .numbers .now) (at .loop .i), line-most (l .before .before .wide .result))) (l .before .before .wide .ensures) (at .loop .inv .2) (at .loop .inv .3) (l .put-decimal-line .ensures .0) (l .put-decimal-line .ensures .1) in
     (omega arith, more .0, more .1, more .2)
 
 same-length : tie.Need-same-length Inv-loop μ-loop
@@ -67,7 +67,7 @@ returns c =
     let a = at .before .before .before .args in
     let e : at .loop .i ≡ length (a .numbers .now) = omega arith in
     let all : take (at .loop .i) (a .numbers .now) ≡ a .numbers .now = ap (λ (k : ℕ). take k (a .numbers .now)) e ∙ take-length (a .numbers .now) in
-    (at .loop .inv .2 ∙ ap (λ (l : List ℕ). length (decimalLines l)) all, at .loop .inv .3 ∙ ap (λ (l : List ℕ). placed (decimalLines l) (a .out .now)) all)
+    (at .loop .inv .2 ∙ ap (λ (l : List ℕ). length (linesOf decimal l)) all, at .loop .inv .3 ∙ ap (λ (l : List ℕ). placed (linesOf decimal l) (a .out .now)) all)
 
 pub put-decimal-lines-spec : {M : Type 1} → statement M
 put-decimal-lines-spec =

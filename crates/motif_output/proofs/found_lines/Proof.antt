@@ -2,8 +2,8 @@
 use native.Mathlib.Omega.{arith}
 use lib.ListN.{length, length-take, length-drop}
 use borrow.Author.Needs.{needs}
-use Rattle.definitions.specs.Programs.{named, decimalLines, foundName, foundLines}
-use Rattle.lines.proofs.Lines.{named-most, lines-most, both-stored}
+use Rattle.definitions.specs.Programs.{decimal, named, linesOf, foundName, foundLines}
+use Rattle.lines.proofs.Lines.{named-most, decimals-most, both-stored}
 use Rattle.motif_output.proofs.found_lines.Statement.{statement}
 use Rattle.motif_output.proofs.found_lines.Tie as tie
 
@@ -30,7 +30,7 @@ add-result c =
     let l = c .before .before in
     let p = l .before .before .before .before in
     let s = p .before .before .before .before .before in
-    omega (arith, p .put-named .ensures .0, l .put-decimal-lines .ensures .0, named-most foundName (length (s .args .positions .now)), lines-most (s .args .positions .now))
+    omega (arith, p .put-named .ensures .0, l .put-decimal-lines .ensures .0, named-most foundName (length (s .args .positions .now)), decimals-most (s .args .positions .now))
 
 returns : tie.Need-returns
 unfolding foundLines
@@ -39,7 +39,7 @@ returns c =
     let p = l .before .before .before .before in
     let s = p .before .before .before .before .before in
     let t = s .args .positions .now in
-    both-stored (named foundName (length t)) (decimalLines t) (s .args .out .now) (p .put-named .last .1 .1 .0) (l .put-decimal-lines .last .1 .0) (p .put-named .result) (l .put-decimal-lines .result) (omega (arith, named-most foundName (length t), lines-most t)) (p .put-named .ensures .0) (p .put-named .ensures .1) (l .put-decimal-lines .ensures .0) (l .put-decimal-lines .ensures .1)
+    both-stored (named foundName (length t)) (linesOf decimal t) (s .args .out .now) (p .put-named .last .1 .1 .0) (l .put-decimal-lines .last .1 .0) (p .put-named .result) (l .put-decimal-lines .result) (omega (arith, named-most foundName (length t), decimals-most t)) (p .put-named .ensures .0) (p .put-named .ensures .1) (l .put-decimal-lines .ensures .0) (l .put-decimal-lines .ensures .1)
 
 pub found-lines-spec : {M : Type 1} → statement M
 found-lines-spec =

@@ -1,0 +1,43 @@
+// Standard input and output of the programs: the input is read to its end or until the slice is full, the output written at once; what fails is said on
+// standard error.
+use libc::STDERR_FILENO;
+use libc::STDIN_FILENO;
+use libc::STDOUT_FILENO;
+ghost use Prim.Native.Nat.{_+_, _≤_, _<_};
+ghost use lib.ListN.{length};
+
+// Reads until the slice is full or the input ends, and answers how many bytes were read; one more than the slice has where a read fails.
+pub fn read_input(input: &mut [u8]) -> usize
+    ensures { λ n. ⌜ n ≤ length (now (input .entry)) + 1 ⌝ }
+{
+    let mut n = 0;
+    while n < input.len() {
+        let got = libc::read(STDIN_FILENO, &mut input[n..]);
+        let more = io::count(got, &input[n..]);
+        if more == 0 {
+            return ended(got, n, input.len());
+        }
+        n += more;
+    }
+    n
+}
+
+// How many bytes were read into a slice of `size`, n of them before a read that gave none; one more than the slice has where that failed.
+fn ended(got: isize, n: usize, size: usize) -> usize
+    requires { ⌜ (n ≤ size) × (size < 18446744073709551615) ⌝ }
+    ensures { λ r. ⌜ r ≤ size + 1 ⌝ }
+{
+    if got < 0 { size + 1 } else { n }
+}
+
+// Writes all of the output, and where that fails says so by these bytes.
+pub fn write_output(output: &[u8], failure: &[u8]) {
+    if !io::write_all(STDOUT_FILENO, output) {
+        say(failure);
+    }
+}
+
+// Writes bytes to standard error.
+pub fn say(message: &[u8]) {
+    io::write_all(STDERR_FILENO, message);
+}
