@@ -8,7 +8,7 @@ use replies::replied_read;
 use replies::replied_search;
 ghost use mathlib.Core.Path.{_≡_};
 ghost use mathlib.Core.List.{[], _∷_};
-ghost use Rattle.definitions.specs.Services.{Serves, sampleOrder, formerOrder, buildService, checkService, readService, extractService, countService, locateService, cutsService, lyndonLengthService, lyndonArrayService, convertOrderService, toStepsService, fromStepsService};
+ghost use Rattle.definitions.specs.Services.{Serves, sampleOrder, formerOrder, buildService, checkService, buildProfileService, checkProfileService, readService, extractService, countService, locateService, cutsService, lyndonLengthService, lyndonArrayService, convertOrderService, toStepsService, fromStepsService};
 ghost use Rattle.definitions.specs.Replies.{Replies, SearchReplies, contentOf, interfaceNumber};
 
 // The number of this interface, by which a program can tell another library from its own.
@@ -38,6 +38,27 @@ pub extern "C" fn sirbolta_check(table: &[u32], work: &mut [u32]) -> Reply
     ensures { λ r. ⌜ Serves (checkService sampleOrder (now (table .entry)) (now (work .entry))) (Replies r) (now (work .exit) ∷ []) ⌝ }
 {
     replied(index::check(table, work))
+}
+
+// Builds the table of a drive in the nine-heading profile: `index::build_profile`.
+#[no_mangle]
+pub extern "C" fn sirbolta_build_profile(
+    text: &[u8],
+    chair: u16,
+    work: &mut [u32],
+    result: &mut [u32],
+) -> Reply
+    ensures { λ r. ⌜ Serves (buildProfileService sampleOrder (now (text .entry)) chair (now (work .entry)) (now (result .entry))) (Replies r) (now (work .exit) ∷ now (result .exit) ∷ []) ⌝ }
+{
+    replied(index::build_profile(text, chair, work, result))
+}
+
+// Checks a table in the nine-heading profile: `index::check_profile`.
+#[no_mangle]
+pub extern "C" fn sirbolta_check_profile(table: &[u32], work: &mut [u32]) -> Reply
+    ensures { λ r. ⌜ Serves (checkProfileService sampleOrder (now (table .entry)) (now (work .entry))) (Replies r) (now (work .exit) ∷ []) ⌝ }
+{
+    replied(index::check_profile(table, work))
 }
 
 // Reads a table back, text and chair number: `index::read`.

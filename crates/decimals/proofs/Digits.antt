@@ -94,13 +94,18 @@ digits-none i n out e = ap (λ (k : ℕ). placed (digits k n) out) e ∙ placed-
 
 -- ---- what the functions leave
 
-pub line-stored : (n k : ℕ) (old out : List ℕ) → 11 ≤ length old → k ≡ digitCount n → out ≡ placed (digits k n) old
+-- what stands in a line, and the byte that ends it
+pub line-stored : (l old out : List ℕ) (k : ℕ) → length l < length old → k ≡ length l → out ≡ placed l old
+    → (k + 1 ≡ length (line l)) × (set out k 10 ≡ placed (line l) old)
+unfolding line
+line-stored l old out k h e f = (
+  omega (arith, length-append l (10 ∷ [])),
+  ap (λ (o : List ℕ). set o k 10) f ∙ ap (λ (m : ℕ). set (placed l old) m 10) e ∙ sym (placed-more l old 10 h),
+)
+
+pub decimal-stored : (n k : ℕ) (old out : List ℕ) → 11 ≤ length old → k ≡ digitCount n → out ≡ placed (digits k n) old
     → (k + 1 ≡ length (line (decimal n))) × (set out k 10 ≡ placed (line (decimal n)) old)
-unfolding line decimal
-line-stored n k old out h e f =
-    let size : length (digits (digitCount n) n) ≡ k = digits-length (digitCount n) n ∙ sym e in (
-      omega (arith, line-length n, e),
-      ap (λ (l : List ℕ). set l k 10) (f ∙ ap (λ (m : ℕ). placed (digits m n) old) e)
-          ∙ ap (λ (m : ℕ). set (placed (digits (digitCount n) n) old) m 10) (sym size)
-          ∙ sym (placed-more (digits (digitCount n) n) old 10 (omega (arith, count-range n .1))),
-    )
+unfolding decimal
+decimal-stored n k old out h e f =
+    let size = digits-length (digitCount n) n in
+    line-stored (decimal n) old out k (omega (arith, size, count-range n .1)) (omega (arith, size)) (f ∙ ap (λ (m : ℕ). placed (digits m n) old) e)

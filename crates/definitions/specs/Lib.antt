@@ -3,6 +3,7 @@ pub mod Grammar
 pub mod Table
 pub mod Occurrences
 pub mod Steps
+pub mod Profile
 pub mod Services
 pub mod Replies
 pub mod Programs

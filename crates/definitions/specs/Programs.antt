@@ -1,14 +1,14 @@
--- What the programs print: decimal numbers, lines and refusals, and all that `motif` prints of its input (document 01, "Samples from the
--- desk"). Input and output are lists of bytes.
+-- What the programs print: decimal numbers, lines and refusals, and all that `motif` (document 01, "Samples from the desk") and `desk_report`
+-- (document 02, S-7) print of their input. Input and output are lists of bytes.
 use Prim.Native.Nat.{ℕ, zero, suc, _+_, _/_, _%_}
 use mathlib.Core.Bool.{false, cond}
 use mathlib.Core.List.{List, [], _∷_, _++_}
-use lib.ListN.{length}
+use lib.ListN.{length, getD}
 use lib.Dec.{ltb, eqb}
 use Rattle.definitions.specs.declared.Order.{Order}
 use Rattle.definitions.specs.Table.{tableOf, ruleCount}
 use Rattle.definitions.specs.Occurrences.{occurrences}
-use Rattle.definitions.specs.Services.{Check, check, firstMet, textTooLong, patternChecks}
+use Rattle.definitions.specs.Services.{Check, check, firstMet, textTooLong, patternChecks, profileChecks}
 
 -- ---- numbers and lines
 
@@ -88,3 +88,38 @@ motifOutput o input =
     let drive = driveOf input in
     printed (inputTooLong input ∷ textTooLong drive ∷ patternChecks motif)
     (named rulesName (ruleCount (tableOf o drive 0)) ++ foundLines (occurrences motif drive))
+
+-- ---- the program `desk_report`
+
+-- `rest`, `forward`, `back`, `left`, `right`
+abbrev pub restName : List ℕ
+restName = 114 ∷ 101 ∷ 115 ∷ 116 ∷ []
+
+abbrev pub forwardName : List ℕ
+forwardName = 102 ∷ 111 ∷ 114 ∷ 119 ∷ 97 ∷ 114 ∷ 100 ∷ []
+
+abbrev pub backName : List ℕ
+backName = 98 ∷ 97 ∷ 99 ∷ 107 ∷ []
+
+abbrev pub leftName : List ℕ
+leftName = 108 ∷ 101 ∷ 102 ∷ 116 ∷ []
+
+abbrev pub rightName : List ℕ
+rightName = 114 ∷ 105 ∷ 103 ∷ 104 ∷ 116 ∷ []
+
+-- two of them with the sign `-` between them
+abbrev pub hyphened : List ℕ → List ℕ → List ℕ
+hyphened a b = a ++ (45 ∷ b)
+
+-- the names of the nine headings, by number
+abbrev pub headingNames : List (List ℕ)
+headingNames =
+    restName ∷ forwardName ∷ hyphened forwardName rightName ∷ rightName ∷ hyphened backName rightName ∷ backName ∷ hyphened backName leftName ∷ leftName ∷ hyphened forwardName leftName ∷ []
+
+-- the name of a heading; no other byte has one
+unfoldable pub headingName : ℕ → List ℕ
+headingName b = getD headingNames b []
+
+-- all of the input is the drive; the name of each of its samples is printed
+unfoldable pub deskOutput : List ℕ → List ℕ
+deskOutput drive = printed (textTooLong drive ∷ profileChecks false drive) (linesOf headingName drive)

@@ -1,10 +1,10 @@
 -- The samples of document 01 that are marked P, its live cuts, its two examples of a cut at a join, its table of `abab` for chair 40, tables that it says are
 -- foreign, some of its edges as outcomes of services, and what its program prints; the arrays of S-1; drives whose tables, cuts and lengths the order of S-2 changes; patterns
 -- with live cuts that S-3 does not list; and the tests of S-4, in `abab` those of a rule that stands twice in the tree and of one whose left half is the mark;
--- first differences of tails (S-5); drives rearranged to steps and searched by them (S-6): by computation, under one claim.
+-- first differences of tails (S-5); drives rearranged to steps and searched by them (S-6); drives in the nine-heading profile and others, and what the desk report prints of them (S-7): by computation, under one claim.
 use Prim.Native.Nat.{ℕ, _+_, _-_}
 use mathlib.Core.Path.{_≡_, refl}
-use mathlib.Core.Bool.{Bool, true, false, cond, _&&_}
+use mathlib.Core.Bool.{Bool, true, false, cond, not, _&&_}
 use mathlib.Core.List.{List, [], _∷_, _++_, map}
 use lib.ListN.{length, drop, getD, replicate}
 use lib.Dec.{eqb}
@@ -18,9 +18,10 @@ use Rattle.definitions.specs.Grammar.{leftOf, rightOf, word, split, lynd
 use Rattle.definitions.specs.Table.{rankOf, byteOf, numberOfRank, rankOfNumber, marked, wordOf, kindOf, numberOf, ruleWords, words, tableOf, badFirst, badSecond, badWord, stringOf, strings, ruleString, isPair, leftHalf, rightHalf, spelled, textOf, chairOf, isDrive, isChair, isTable}
 use Rattle.definitions.specs.Occurrences.{occurrences, notGreaterAtDifference, isLive, liveCuts, wordAgain, isListed, listedCuts, patternCuts, straddles, straddling, cutIn, cutAt, fitsJoin, isTested, Test, testsOf, testsBelow, tests}
 use Rattle.definitions.specs.Steps.{step, stepsOf, toSteps, samplesFrom, fromSteps, stepFinds, searched, finds}
-use Rattle.definitions.specs.Services.{Outcome, done, refused, readOutcome, searchOf, Service, firstMet, outcome, outcomeOf, cleared, slicesAfter, sampleOrder, formerOrder, tableChecks, patternChecks, searchChecks, buildService, checkService, readService, extractService, countService, locateService, cutsService, lyndonLengthService, lyndonArrayService, convertOrderService, toStepsService, fromStepsService}
+use Rattle.definitions.specs.Profile.{onHeading, firstOff, atRest, isProfile}
+use Rattle.definitions.specs.Services.{Outcome, done, refused, readOutcome, searchOf, Service, firstMet, outcome, outcomeOf, cleared, slicesAfter, sampleOrder, formerOrder, tableChecks, patternChecks, searchChecks, profileChecks, buildService, checkService, buildProfileService, checkProfileService, readService, extractService, countService, locateService, cutsService, lyndonLengthService, lyndonArrayService, convertOrderService, toStepsService, fromStepsService}
 use Rattle.definitions.specs.Replies.{replyOf, searchReplyOf, contentOf}
-use Rattle.definitions.specs.Programs.{digits, digitsUpTo, digitCount, decimal, line, named, linesOf, refusedLine, printed, motifOf, driveOf, foundLines, motifOutput}
+use Rattle.definitions.specs.Programs.{digits, digitsUpTo, digitCount, decimal, line, named, linesOf, refusedLine, printed, motifOf, driveOf, foundLines, motifOutput, headingName, deskOutput}
 
 abbrev pub a : ℕ
 a = 97
@@ -68,6 +69,10 @@ moved = 5 ∷ 7 ∷ 9 ∷ 3 ∷ 5 ∷ []
 abbrev pub ofSteps : List ℕ
 ofSteps = tableOf sampleOrder (5 ∷ 2 ∷ 2 ∷ 250 ∷ 2 ∷ []) 40
 
+-- a profile drive: forward and back to rest
+abbrev pub ahead : List ℕ
+ahead = 0 ∷ 1 ∷ 0 ∷ []
+
 -- work slices: enough words
 abbrev pub room : List ℕ
 room = replicate 16384 7
@@ -75,6 +80,10 @@ room = replicate 16384 7
 -- what the program prints: `refused N`; and `rules R`, `found F` and positions
 abbrev pub refusedWith : ℕ → List ℕ
 refusedWith n = 114 ∷ 101 ∷ 102 ∷ 117 ∷ 115 ∷ 101 ∷ 100 ∷ 32 ∷ (48 + n) ∷ 10 ∷ []
+
+-- `refused 1N`
+abbrev pub refusedWithTen : ℕ → List ℕ
+refusedWithTen n = 114 ∷ 101 ∷ 102 ∷ 117 ∷ 115 ∷ 101 ∷ 100 ∷ 32 ∷ 49 ∷ (48 + n) ∷ 10 ∷ []
 
 abbrev pub foundIn : ℕ → ℕ → List ℕ → List ℕ
 foundIn r n rest = 114 ∷ 117 ∷ 108 ∷ 101 ∷ 115 ∷ 32 ∷ (48 + r) ∷ 10 ∷ 102 ∷ 111 ∷ 117 ∷ 110 ∷ 100 ∷ 32 ∷ (48 + n) ∷ 10 ∷ rest
@@ -99,6 +108,8 @@ pub data Sample : Type 0 where
   follow : List ℕ → List ℕ → List ℕ → Sample
   -- whether the form says that a table holds steps
   says : ℕ → Bool → Sample
+  -- the lowest index of the drive that is off heading, and whether the drive is a profile drive
+  profile : List ℕ → ℕ → Bool → Sample
   -- the Lyndon array of the drive
   lengths : List ℕ → List ℕ → Sample
   -- the ranks of the bytes
@@ -124,8 +135,9 @@ pub data Sample : Type 0 where
   found : Outcome → ℕ → ℕ → ℕ → ℕ → ℕ → Sample
   -- the number in decimal
   spells : ℕ → List ℕ → Sample
-  -- the input makes the program `motif` print this
+  -- the input makes the program `motif` print this, or the program `desk_report`
   prints : List ℕ → List ℕ → Sample
+  reports : List ℕ → List ℕ → Sample
 
 unfoldable pub last : List (List ℕ) → List ℕ
 last slices = getD slices (length slices - 1) []
@@ -165,6 +177,7 @@ holds (differ p i j d) = eqb (firstDifference (drop i p) (drop j p)) d
 holds (rearranged text l) = same (toSteps text) l && same (fromSteps l) text
 holds (follow text p places) = same (stepFinds p text) places && same (finds Steps p (toSteps text)) places
 holds (says form b) = eqb (length (searched (contentOf form) (a ∷ []))) (cond b 0 1)
+holds (profile text i b) = eqb (firstOff text) i && cond (isProfile text) b (not b)
 holds (lengths text l) = same (lyndonArray (map (rankOf sampleOrder) text)) l
 holds (ranks bytes l) = same (map (rankOf sampleOrder) bytes) l
 holds (table text chair t) = same (tableOf sampleOrder text chair) t
@@ -180,6 +193,7 @@ holds (found o number chair place count tests) =
     let r = searchReplyOf o in same (r .number ∷ r .chair ∷ r .place ∷ r .count ∷ r .tests ∷ []) (number ∷ chair ∷ place ∷ count ∷ tests ∷ [])
 holds (spells n bytes) = same (decimal n) bytes
 holds (prints input output) = same (motifOutput sampleOrder input) output
+holds (reports input output) = same (deskOutput input) output
 
 unfoldable pub all : List Sample → Bool
 all [] = true
@@ -259,6 +273,14 @@ samples =
     ∷ says 2 false
     ∷ says 4294967294 false
     ∷ says 4294967295 true
+    ∷ profile (0 ∷ []) 1 true
+    ∷ profile (0 ∷ 3 ∷ 8 ∷ 0 ∷ []) 4 true
+    ∷ profile [] 0 false
+    ∷ profile (0 ∷ 9 ∷ 0 ∷ []) 1 false
+    ∷ profile (0 ∷ 1 ∷ 255 ∷ 9 ∷ 0 ∷ []) 2 false
+    ∷ profile (128 ∷ 127 ∷ []) 0 false
+    ∷ profile (1 ∷ 0 ∷ []) 2 false
+    ∷ profile (0 ∷ 8 ∷ []) 2 false
     ∷ lengths abab (2 ∷ 1 ∷ 2 ∷ 1 ∷ [])
     ∷ lengths (a ∷ a ∷ b ∷ []) (3 ∷ 2 ∷ 1 ∷ [])
     ∷ lengths (a ∷ a ∷ a ∷ a ∷ []) (1 ∷ 1 ∷ 1 ∷ 1 ∷ [])
@@ -298,6 +320,23 @@ samples =
     ∷ ends (checkService sampleOrder (0x000 ∷ 0xC0000000 ∷ 0x40000000 ∷ 0xC0000000 ∷ []) room) 6 3 0 0
     ∷ ends (checkService sampleOrder otherOrder room) 7 0 0 0
     ∷ ends (checkService sampleOrder twoRules room) 7 0 0 0
+    ∷ rules ahead 6
+    ∷ ends (buildProfileService sampleOrder ahead 40 room (replicate 12 7)) 0 0 12 0
+    ∷ ends (buildProfileService sampleOrder ahead 40 room (replicate 11 7)) 9 12 0 0
+    ∷ ends (buildProfileService sampleOrder ahead 40 (drop 1 room) []) 4 0 0 0
+    ∷ ends (buildProfileService sampleOrder (1 ∷ 0 ∷ []) 40 [] []) 12 0 0 0
+    ∷ ends (buildProfileService sampleOrder (0 ∷ 1 ∷ []) 40 [] []) 12 0 0 0
+    ∷ ends (buildProfileService sampleOrder [] 40 [] []) 12 0 0 0
+    ∷ ends (buildProfileService sampleOrder (1 ∷ 128 ∷ 9 ∷ []) 40 [] []) 11 1 0 0
+    ∷ ends (checkProfileService sampleOrder (tableOf sampleOrder ahead 40) room) 0 0 6 0
+    ∷ ends (checkProfileService sampleOrder (tableOf sampleOrder (0 ∷ 1 ∷ []) 40) room) 12 0 0 0
+    ∷ ends (checkProfileService sampleOrder (tableOf sampleOrder [] 40) room) 12 0 0 0
+    ∷ ends (checkProfileService sampleOrder (tableOf sampleOrder (0 ∷ 255 ∷ 9 ∷ 1 ∷ []) 40) room) 11 1 0 0
+    ∷ ends (checkProfileService sampleOrder ofAbab room) 11 0 0 0
+    ∷ ends (checkProfileService sampleOrder twoRules room) 7 0 0 0
+    ∷ ends (checkProfileService sampleOrder (drop 2 ofAbab) room) 6 5 0 0
+    ∷ ends (checkProfileService sampleOrder [] room) 5 0 0 0
+    ∷ ends (checkProfileService sampleOrder [] (drop 1 room)) 4 0 0 0
     ∷ ends (readService sampleOrder ofAbab room (replicate 4 7)) 0 0 4 40
     ∷ ends (readService sampleOrder ofAbab room (replicate 3 7)) 9 4 0 0
     ∷ ends (readService sampleOrder twoRules room (replicate 4 7)) 7 0 0 0
@@ -358,6 +397,7 @@ samples =
     ∷ leaves (locateService sampleOrder ofAbab Samples (a ∷ b ∷ []) room (replicate 1 7)) (7 ∷ [])
     ∷ leaves (locateService sampleOrder ofAbab Samples (a ∷ b ∷ []) room (replicate 3 7)) (0 ∷ 2 ∷ 7 ∷ [])
     ∷ leaves (locateService sampleOrder ofSteps Steps (0 ∷ 2 ∷ []) room (replicate 4 7)) (0 ∷ 1 ∷ 3 ∷ 7 ∷ [])
+    ∷ leaves (buildProfileService sampleOrder ahead 40 room (replicate 13 7)) (tableOf sampleOrder ahead 40 ++ (7 ∷ []))
     ∷ leaves (toStepsService moved (replicate 6 7)) (5 ∷ 2 ∷ 2 ∷ 250 ∷ 2 ∷ 7 ∷ [])
     ∷ leaves (fromStepsService (5 ∷ 2 ∷ 2 ∷ 250 ∷ 2 ∷ []) (replicate 6 7)) (moved ++ 7 ∷ [])
     ∷ leaves (cutsService sampleOrder (a ∷ a ∷ b ∷ a ∷ []) (replicate 3 7)) (1 ∷ 3 ∷ 7 ∷ [])
@@ -368,6 +408,12 @@ samples =
     ∷ clears (checkService sampleOrder (drop 2 ofAbab) room) false
     ∷ clears (checkService sampleOrder [] room) false
     ∷ leaves (checkService sampleOrder ofAbab (7 ∷ [])) (7 ∷ [])
+    ∷ clears (buildProfileService sampleOrder (9 ∷ []) 40 room []) false
+    ∷ clears (buildProfileService sampleOrder [] 40 room []) false
+    ∷ clears (buildProfileService sampleOrder ahead 40 room []) true
+    ∷ clears (checkProfileService sampleOrder ofAbab room) true
+    ∷ clears (checkProfileService sampleOrder (tableOf sampleOrder [] 40) room) true
+    ∷ clears (checkProfileService sampleOrder (drop 2 ofAbab) room) false
     ∷ clears (countService sampleOrder ofAbab Samples [] room) false
     ∷ clears (countService sampleOrder ofAbab Steps (a ∷ []) room) false
     ∷ clears (countService sampleOrder ofAbab Steps (a ∷ a ∷ []) room) true
@@ -409,6 +455,13 @@ samples =
     ∷ prints (a ∷ 10 ∷ 10 ∷ []) (foundIn 3 0 [])
     ∷ prints (replicate 4096 a) (refusedWith 1)
     ∷ prints (replicate 4095 a) (refusedWith 3)
+    ∷ reports (0 ∷ 1 ∷ 2 ∷ 3 ∷ 4 ∷ 5 ∷ 6 ∷ 7 ∷ 8 ∷ 0 ∷ []) (114 ∷ 101 ∷ 115 ∷ 116 ∷ 10 ∷ 102 ∷ 111 ∷ 114 ∷ 119 ∷ 97 ∷ 114 ∷ 100 ∷ 10 ∷ 102 ∷ 111 ∷ 114 ∷ 119 ∷ 97 ∷ 114 ∷ 100 ∷ 45 ∷ 114 ∷ 105 ∷ 103 ∷ 104 ∷ 116 ∷ 10 ∷ 114 ∷ 105 ∷ 103 ∷ 104 ∷ 116 ∷ 10 ∷ 98 ∷ 97 ∷ 99 ∷ 107 ∷ 45 ∷ 114 ∷ 105 ∷ 103 ∷ 104 ∷ 116 ∷ 10 ∷ 98 ∷ 97 ∷ 99 ∷ 107 ∷ 10 ∷ 98 ∷ 97 ∷ 99 ∷ 107 ∷ 45 ∷ 108 ∷ 101 ∷ 102 ∷ 116 ∷ 10 ∷ 108 ∷ 101 ∷ 102 ∷ 116 ∷ 10 ∷ 102 ∷ 111 ∷ 114 ∷ 119 ∷ 97 ∷ 114 ∷ 100 ∷ 45 ∷ 108 ∷ 101 ∷ 102 ∷ 116 ∷ 10 ∷ 114 ∷ 101 ∷ 115 ∷ 116 ∷ 10 ∷ [])
+    ∷ reports [] (refusedWithTen 2)
+    ∷ reports (0 ∷ 1 ∷ []) (refusedWithTen 2)
+    ∷ reports (1 ∷ 9 ∷ []) (refusedWithTen 1)
+    ∷ reports (replicate 2048 9) (refusedWith 1)
+    ∷ ends (buildProfileService sampleOrder (replicate 2048 9) 40 [] []) 1 0 0 0
+    ∷ ends (buildProfileService sampleOrder (replicate 2047 9) 40 [] []) 11 0 0 0
     ∷ ends (buildService sampleOrder (replicate 2048 a) 40 (drop 1 room) []) 1 0 0 0
     ∷ ends (buildService sampleOrder (replicate 2047 a) 40 (drop 1 room) []) 4 0 0 0
     ∷ ends (countService sampleOrder [] Samples (replicate 2048 a) []) 3 0 0 0
@@ -427,5 +480,5 @@ samples =
 
 -- every sample holds
 pub samples-hold : all samples ≡ true
-unfolding edges holds all samples parts readOutcome searchOf replyOf searchReplyOf every below least placed same begins lexlt firstDifference lyndon cutOf greatest lyndonLength lyndonArray leftOf rightOf word split lyndonTree indexOf meet visit order ruleOf rulesOf rankOf byteOf numberOfRank rankOfNumber marked wordOf kindOf numberOf ruleWords words tableOf badFirst badSecond badWord stringOf strings ruleString isPair leftHalf rightHalf spelled textOf chairOf isDrive isChair isTable occurrences notGreaterAtDifference isLive liveCuts wordAgain isListed listedCuts patternCuts straddles straddling cutIn cutAt fitsJoin isTested testsOf testsBelow tests step stepsOf toSteps samplesFrom fromSteps stepFinds searched finds flat firstMet outcome outcomeOf cleared slicesAfter last tableChecks patternChecks searchChecks buildService checkService readService extractService countService locateService cutsService lyndonLengthService lyndonArrayService convertOrderService toStepsService fromStepsService contentOf digits digitsUpTo digitCount decimal line named linesOf refusedLine printed motifOf driveOf foundLines motifOutput
+unfolding edges holds all samples parts readOutcome searchOf replyOf searchReplyOf every below least placed same begins lexlt firstDifference lyndon cutOf greatest lyndonLength lyndonArray leftOf rightOf word split lyndonTree indexOf meet visit order ruleOf rulesOf rankOf byteOf numberOfRank rankOfNumber marked wordOf kindOf numberOf ruleWords words tableOf badFirst badSecond badWord stringOf strings ruleString isPair leftHalf rightHalf spelled textOf chairOf isDrive isChair isTable occurrences notGreaterAtDifference isLive liveCuts wordAgain isListed listedCuts patternCuts straddles straddling cutIn cutAt fitsJoin isTested testsOf testsBelow tests step stepsOf toSteps samplesFrom fromSteps stepFinds searched finds onHeading firstOff atRest isProfile flat firstMet outcome outcomeOf cleared slicesAfter last tableChecks patternChecks searchChecks profileChecks buildService checkService buildProfileService checkProfileService readService extractService countService locateService cutsService lyndonLengthService lyndonArrayService convertOrderService toStepsService fromStepsService contentOf digits digitsUpTo digitCount decimal line named linesOf refusedLine printed motifOf driveOf foundLines motifOutput headingName deskOutput
 samples-hold = refl

@@ -1,4 +1,4 @@
--- What each service answers and leaves in the slices lent to it (document 01, "When a request is turned down"; document 02, S-1 to S-6).
+-- What each service answers and leaves in the slices lent to it (document 01, "When a request is turned down"; document 02, S-1 to S-7).
 -- A service's checks are an ordered list; the first that is met decides number, place and what becomes of each lent slice.
 use Prim.Native.Nat.{ℕ, _+_, _%_}
 use mathlib.Core.Bool.{Bool, true, false, cond, not, _||_}
@@ -19,6 +19,7 @@ use Rattle.definitions.specs.Words.{least, placed, lyndonLength, lyndonA
 use Rattle.definitions.specs.Table.{rankOf, tableOf, badWord, isTable, textOf, chairOf, ruleCount}
 use Rattle.definitions.specs.Occurrences.{patternCuts, tests}
 use Rattle.definitions.specs.Steps.{toSteps, fromSteps, searched, finds}
+use Rattle.definitions.specs.Profile.{firstOff, atRest}
 
 -- ---- outcomes
 
@@ -121,6 +122,13 @@ patternTooLong p = check (ltb 2047 (length p)) 3 0 false
 abbrev pub noStep : List ℕ → Check
 noStep p = check (eqb (length p) 1) 10 0 false
 
+-- of a drive in the nine-heading profile; whether the work slice is cleared differs by service
+abbrev pub offHeading : Bool → List ℕ → Check
+offHeading clears text = let i = firstOff text in check (ltb i (length text)) 11 i clears
+
+abbrev pub notAtRest : Bool → List ℕ → Check
+notAtRest clears text = check (not (atRest text)) 12 0 clears
+
 -- of a work slice of n words
 abbrev pub workTooShort : ℕ → Check
 workTooShort n = check (ltb n 16384) 4 0 false
@@ -164,6 +172,10 @@ unfoldable pub searchChecks : Content → List ℕ → List Check
 searchChecks Samples p = patternChecks p
 searchChecks Steps p = patternChecks p ++ (noStep p ∷ [])
 
+-- of a drive that is to be a profile drive
+unfoldable pub profileChecks : Bool → List ℕ → List Check
+profileChecks clears text = offHeading clears text ∷ notAtRest clears text ∷ []
+
 -- what a service that answers alone gives; one that writes a list gives the number of its entries, and the number beside it
 abbrev pub gives : List Check → Outcome → Service
 gives checks success = record { checks = checks; success = success; lent = [] }
@@ -183,6 +195,14 @@ buildService o text chair work result = working work (writes (textTooLong text �
 -- check a table: success gives the number of rules
 unfoldable pub checkService : Order → List ℕ → List ℕ → Service
 checkService o t work = working work (gives (tableChecks o t (length work)) (done (ruleCount t) 0))
+
+-- build and check in the nine-heading profile: before a work slice is judged the profile's checks leave it, behind the table's they clear it
+unfoldable pub buildProfileService : Order → List ℕ → ℕ → List ℕ → List ℕ → Service
+buildProfileService o text chair work result =
+    working work (writes (textTooLong text ∷ profileChecks false text ++ (workTooShort (length work) ∷ [])) (tableOf o text chair) 0 result)
+
+unfoldable pub checkProfileService : Order → List ℕ → List ℕ → Service
+checkProfileService o t work = working work (gives (tableChecks o t (length work) ++ profileChecks true (textOf o t)) (done (ruleCount t) 0))
 
 -- read a table back
 unfoldable pub readService : Order → List ℕ → List ℕ → List ℕ → Service

@@ -1,7 +1,9 @@
 // The services, each from the crate that has it: it checks what it is handed in the paper's order, and does its work or refuses with number and place.
 // What it answers and what every lent slice holds afterwards is given by its definition, from the inputs alone.
 pub use building::build;
+pub use building::build_profile;
 pub use checking::check;
+pub use checking::check_profile;
 pub use converting::to_signed;
 pub use lyndon_words::lyndon_array;
 pub use lyndon_words::lyndon_length;

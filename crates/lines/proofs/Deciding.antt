@@ -12,7 +12,7 @@ use Rattle.definitions.specs.declared.Answer.the-variants.{Done, Refused}
 use Rattle.definitions.specs.Words.{placed}
 use Rattle.definitions.specs.Services.{done, refused, Check, firstMet, outcomeOf, outcome, resultSlice, slicesAfter, Serves, Answers}
 use Rattle.definitions.specs.Programs.{refusedLine, printed}
-use Rattle.lists.specs.Decisions.{First, Passed, decide, first-decides, passed-all}
+use Rattle.lists.specs.Decisions.{First, Passed, decide, first-decides, passed-all, answered, refused-some, done-all}
 use Rattle.lists.specs.Serving.{by}
 use Rattle.lines.specs.Lines.{refusal}
 
@@ -72,3 +72,13 @@ module _ (checks : List Check) (l old new : List ℕ) (r : Answer) (v : Serves (
 
     pub success-passed : firstMet checks (λ c. true) false ≡ false
     success-passed = passed-all (λ c. true) false (passed .0)
+
+-- an answer of checks alone, with what is printed where none refuses
+module _ (checks : List Check) (n : ℕ) {r : Answer} (e : r ≡ answered checks n) (m : List ℕ) where
+  pub checks-refused : {x y : ℕ} → r ≡ Refused x y → refusal r ≡ printed checks m
+  unfolding refusal printed refusedLine
+  checks-refused q = let (c, d, f) = refused-some checks n e q in ap refusal f ∙ sym (first-decides c refusedLine m d)
+
+  pub checks-passed : {k : ℕ} → r ≡ Done k → m ≡ printed checks m
+  unfolding printed
+  checks-passed q = sym (passed-all refusedLine m (done-all checks n e q .0))

@@ -4,10 +4,10 @@ use decimals::put_decimal_line;
 use definitions::Answer;
 use slices::wide;
 ghost use mathlib.Core.Path.{_≡_};
-ghost use Prim.Native.Nat.{_+_, _*_, _≤_};
+ghost use Prim.Native.Nat.{_+_, _*_, _≤_, _<_};
 ghost use lib.ListN.{length};
 ghost use Rattle.definitions.specs.Words.{placed};
-ghost use Rattle.definitions.specs.Programs.{decimal, named, linesOf};
+ghost use Rattle.definitions.specs.Programs.{decimal, line, named, linesOf};
 ghost use Rattle.lines.specs.Lines.{refusal};
 
 // Numbers, each on a line.
@@ -46,6 +46,17 @@ pub fn put_named(name: &[u8], number: usize, out: &mut [u8]) -> usize
     let n = put_bytes(name, out);
     let m = put_decimal_line(number, &mut out[n..]);
     n + m
+}
+
+// A line of bytes.
+pub fn put_line(bytes: &[u8], out: &mut [u8]) -> usize
+    requires { ⌜ length (now bytes) < length (now out) ⌝ }
+    ensures { λ n. ⌜ n ≡ length (line (now (bytes .entry))) ⌝ }
+    ensures { λ _. ⌜ now (out .exit) ≡ placed (line (now (bytes .entry))) (now (out .entry)) ⌝ }
+{
+    let n = put_bytes(bytes, out);
+    out[n] = 10;
+    n + 1
 }
 
 // Bytes as they are.

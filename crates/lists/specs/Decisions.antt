@@ -56,6 +56,11 @@ pub both-passed : {a b : List Check} → Passed a → Passed b → Passed (a ++ 
 both-passed none q = q
 both-passed (more c e p) q = more c e (both-passed p q)
 
+-- and back
+pub passed-parts : (a : List Check) {b : List Check} → Passed (a ++ b) → Passed a × Passed b
+passed-parts [] p = (none, p)
+passed-parts (c ∷ a) (more _ e p) = let (q, r) = passed-parts a p in (more c e q, r)
+
 -- ---- answers
 
 -- the answer of one check: the refusal where it is met, else what goes on; and that of several in order

@@ -8,7 +8,7 @@ use native.Mathlib.Nat.{add-suc, add-zero, two-pow-succ, pow-le-pow-right}
 use native.Mathlib.Omega.{arith}
 use lib.ListN.{length, length-append}
 use lib.Dec.{ltb, eqb}
-use borrow.Author.Tests.{ltb-true, ltb-false, eqb-true, eq-eqb}
+use borrow.Author.Tests.{ltb-true, ltb-false, lt-ltb, le-ltb, eqb-true, eq-eqb, not-false}
 use Rattle.definitions.specs.Words.{every, below, least, greatest}
 use Rattle.lists.specs.Bools.{either, contra, and-left, and-right, and-intro, cond-true, cond-false}
 
@@ -266,6 +266,13 @@ least-none f n b =
     (λ l. contra (least-holds f n l) (b (least f n) l))
     (λ q. q)
     (λ l. absurd (omega (arith, least-le f n)))
+
+-- the least number that fails a test is below the bound exactly where not every number passes
+pub every-least : (f : ℕ → Bool) (n : ℕ) (b : Bool) → every f n ≡ b → ltb (least (λ i. not (f i)) n) n ≡ not b
+every-least f n true e = le-ltb (least (λ i. not (f i)) n) n (omega (arith, least-none (λ i. not (f i)) n (λ j h. ap not (every-at f n e j h))))
+every-least f n false e = split-le n (least (λ i. not (f i)) n)
+    (λ h. contra (every-all f n (λ j l. not-false (f j) (least-before (λ i. not (f i)) n j (omega arith)))) e)
+    (λ h. lt-ltb (least (λ i. not (f i)) n) n h)
 
 -- ---- greatest
 

@@ -1,4 +1,4 @@
--- Calls that serve, by the check that decides: refused by one of the checks (`refused-by`, `refused-front`), or decided by those behind them (`passed`),
+-- Calls that serve, by the check that decides: refused by one of the checks (`refused-by`, `refused-front`), or decided by those behind them (`passed`; back: `passed-over`),
 -- in the end by none (`served`; back: `done-passed`, `done-served`). A work slice that is cleared can be lent besides (`worked`), and an answer stated otherwise (`restated`, `said`),
 -- or without the number beside the one that success gives (`alone`).
 use mathlib.Core.Path.{_≡_, refl, sym, _∙_, ap, ap₂, subst}
@@ -52,6 +52,15 @@ module _ {checks : List Check} {success : Outcome} {lent : List Lent} {A : Outco
     answer = subst A (sym (passed-front checks (λ c. refused (c .number) (c .place)) success p)) (v .answer);
     slices = v .slices
         ∙ sym (same-map (λ x. firstMet (front ++ checks) (x .ifRefused) (x .ifDone)) (λ x. firstMet checks (x .ifRefused) (x .ifDone)) (λ x. passed-front checks (x .ifRefused) (x .ifDone) p) lent);
+  }
+
+  -- and back
+  pub passed-over : {front : List Check} → Passed front → Serves (by (front ++ checks) success lent) A held → Serves (by checks success lent) A held
+  unfolding outcome slicesAfter
+  passed-over {front} p v = record {
+    answer = subst A (passed-front checks (λ c. refused (c .number) (c .place)) success p) (v .answer);
+    slices = v .slices
+        ∙ same-map (λ x. firstMet (front ++ checks) (x .ifRefused) (x .ifDone)) (λ x. firstMet checks (x .ifRefused) (x .ifDone)) (λ x. passed-front checks (x .ifRefused) (x .ifDone) p) lent;
   }
 
 -- the checks may be grouped otherwise

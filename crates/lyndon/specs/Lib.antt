@@ -22,6 +22,7 @@ pub mod Pairs
 pub mod Shapes
 pub mod Windows
 pub mod Back
+pub mod Profile
 pub mod Finds
 pub mod Arrays
 pub mod Meeting

@@ -15,5 +15,8 @@ fn main() {
     }
     let mut out = [0u8; 24576];
     let m = answer(&input[0..n], &mut out);
-    write_output(&out[0..m], b"motif: the answer was not written to its end\n");
+    write_output(
+        &out[0..m],
+        b"motif: the answer was not written to its end\n",
+    );
 }

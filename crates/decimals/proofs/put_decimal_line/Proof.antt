@@ -1,7 +1,7 @@
 -- `put_decimal_line` writes the digits of a number, and the byte that ends the line behind them.
 use native.Mathlib.Omega.{arith}
 use borrow.Author.Needs.{needs}
-use Rattle.decimals.proofs.Digits.{count-range, line-stored}
+use Rattle.decimals.proofs.Digits.{count-range, decimal-stored}
 use Rattle.decimals.proofs.put_decimal_line.Statement.{statement}
 use Rattle.decimals.proofs.put_decimal_line.Tie as tie
 
@@ -26,7 +26,7 @@ returns c =
     let p = c .before .before in
     let d = p .before .before in
     let s = d .before .before in
-    line-stored (s .args .number) (d .digit-count .result) (s .args .out .now) (p .put-digits .last .1 .1 .0) (s .pre) (d .digit-count .ensures) (p .put-digits .ensures)
+    decimal-stored (s .args .number) (d .digit-count .result) (s .args .out .now) (p .put-digits .last .1 .1 .0) (s .pre) (d .digit-count .ensures) (p .put-digits .ensures)
 
 pub put-decimal-line-spec : {M : Type 1} → statement M
 put-decimal-line-spec = tie.close (tie.spec (λ c κs. search needs) put-digits-requires slice-write-out add-result (λ c. search needs) returns)
