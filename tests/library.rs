@@ -88,4 +88,14 @@ extern "C" {
     ) -> Reply;
     pub fn sirbolta_to_steps(text: *const u8, text_len: usize, result: *mut u8, result_len: usize) -> Reply;
     pub fn sirbolta_from_steps(text: *const u8, text_len: usize, result: *mut u8, result_len: usize) -> Reply;
+    pub fn sirbolta_build_profile(
+        text: *const u8,
+        text_len: usize,
+        chair: u16,
+        work: *mut u32,
+        work_len: usize,
+        result: *mut u32,
+        result_len: usize,
+    ) -> Reply;
+    pub fn sirbolta_check_profile(table: *const u32, table_len: usize, work: *mut u32, work_len: usize) -> Reply;
 }
