@@ -10,6 +10,10 @@
  * from the one before, modulo 256. The table does not say that it holds steps. The caller says so, by form, to sirbolta_count and
  * sirbolta_locate; every other function takes the text as it stands.
  *
+ * A profile drive is that of a switch joystick: byte 0 is rest, 1 to 8 are the headings. It is not empty, begins and ends at rest, and has no
+ * byte above 8, read as an unsigned number. A profile table is the table of such a drive, and every function takes it.
+ * sirbolta_build_profile and sirbolta_check_profile refuse all other drives and tables.
+ *
  * A former table is one that was built while samples were compared as unsigned numbers. sirbolta_to_signed takes former tables and no
  * others; every other function refuses them by 7, unless all samples of the text are below 128 or none is: the two orders then give the
  * same table.
@@ -23,7 +27,9 @@
  *
  * A reply's number is 0 on success; otherwise it is the first in this list that is met and concerns the service:
  *
- *   1  text too long       the text has more than 2,047 samples                        build, to_steps, from_steps
+ *   1  text too long       the text has more than 2,047 samples                        build, build_profile, to_steps, from_steps
+ *  11  off heading         a byte of the text is above 8                               build_profile
+ *  12  not at rest         the text is empty, or its first or last byte is not 0       build_profile
  *   2  pattern empty       the pattern has no sample                                   count, locate, live_cuts
  *   3  pattern too long    the pattern has more than 2,047 samples                     count, locate, live_cuts
  *  10  no step             the pattern has one sample, and form says steps             count, locate
@@ -32,16 +38,20 @@
  *   6  bad word            a word of the table is bad                                  all with a table
  *   7  not a table         no bad word, yet the table of no text and chair number      all with a table but to_signed
  *                          no bad word, yet the former table of none                   to_signed
+ *  11  off heading         a byte of the table's text is above 8                       check_profile
+ *  12  not at rest         that text is empty, or its first or last byte is not 0      check_profile
  *   8  range past the end  start + length is above the text's length (it never wraps)  extract
  *                          the position is not below the text's length                 lyndon_length
  *   9  result too short    the result slice has fewer entries than the result          all with a result slice
  *
- * Place is the lowest index of a bad word for 6, the entries needed for 9, otherwise 0. Count is what the service says on success, 0 when it
- * refuses. Chair is the chair number where sirbolta_read succeeds, otherwise 0.
+ * So 11 and 12 come behind 1 and before 4 when building, and behind 7 when checking.
+ *
+ * Place is the lowest index of a bad word for 6, the entries needed for 9, the lowest index of a byte above 8 for 11, otherwise 0. Count is
+ * what the service says on success, 0 when it refuses. Chair is the chair number where sirbolta_read succeeds, otherwise 0.
  *
  * The result slice afterwards: on success the result stands at its front and the rest is as it was; after a refusal all is as it was.
- * The work slice afterwards: after a refusal that stands above 7 in the list it is as it was; after the others and success its first 16,384
- * words are 0 and the rest is as it was.
+ * The work slice afterwards: after a refusal that stands above 7 in the list it is as it was, so also after 11 and 12 when building; after the
+ * others, so also after 11 and 12 when checking, and after success its first 16,384 words are 0 and the rest is as it was.
  * What either held before plays no part.
  */
 #ifndef SIRBOLTA_H
@@ -128,6 +138,12 @@ sirbolta_reply sirbolta_to_steps(const uint8_t *text, size_t text_len, uint8_t *
 
 /* Writes the drive that sirbolta_to_steps rearranges to this text. Count: the samples written. */
 sirbolta_reply sirbolta_from_steps(const uint8_t *text, size_t text_len, uint8_t *result, size_t result_len);
+
+/* Writes the table of a profile drive and a chair number, which is what sirbolta_build writes of them. Count: the words written, two a rule. */
+sirbolta_reply sirbolta_build_profile(const uint8_t *text, size_t text_len, uint16_t chair, uint32_t *work, size_t work_len, uint32_t *result, size_t result_len);
+
+/* Whether these words are the table of some profile drive and chair number. Count: the rules. */
+sirbolta_reply sirbolta_check_profile(const uint32_t *table, size_t table_len, uint32_t *work, size_t work_len);
 
 #ifdef __cplusplus
 }

@@ -30,9 +30,10 @@ import sirbolta  # noqa: E402
 
 AGREED = {}
 
-# each service that a table in the signed order is handed to, with arguments for the drive `abab`
-SERVICES = [("check",), ("read",), ("extract", 1, 2), ("count", b"ab"), ("locate", b"ab"), ("lyndon_length", 1), ("lyndon_array",)]
-SERVICES += [("count_with_tests", b"ab"), ("locate_with_tests", b"ab")]
+# each service that a table in the signed order is handed to, with arguments for a profile drive
+PROFILE = b"\0\1\0\1\0"
+SERVICES = [("check",), ("read",), ("extract", 1, 2), ("count", b"\0\1"), ("locate", b"\0\1"), ("lyndon_length", 1), ("lyndon_array",), ("check_profile",)]
+SERVICES += [("count_with_tests", b"\0\1"), ("locate_with_tests", b"\0\1")]
 
 
 class Told(bytes):
@@ -112,10 +113,10 @@ def asked(case: dict, kind):
     steps = {"0": False, "1": True}[case.get("arg steps", "0")]
     match case["call"]:
         case "build":
-            words = sirbolta.build(drive, int(case["arg chair"])).words.tolist()
+            words = {None: sirbolta.build, "1": sirbolta.build_profile}[case.get("arg profile")](drive, int(case["arg chair"])).words.tolist()
             return len(words), words
         case "check":
-            return sirbolta.check(table), None
+            return {None: sirbolta.check, "1": sirbolta.check_profile}[case.get("arg profile")](table), None
         case "read":
             text, chair = sirbolta.read(table)
             return (len(text), chair), list(text)
@@ -153,8 +154,10 @@ class Vectors(unittest.TestCase):
             for name in KINDS if "arg table" in case else ["list"]:
                 with self.subTest(case, kind=name):
                     self.agrees(case, want, KINDS[name])
-            AGREED[case["call"]] = AGREED.get(case["call"], 0) + 1
-        self.assertEqual(sorted(AGREED), ["build", "check", "convert_order", "count", "cuts", "list", "longest", "longest_all", "part", "read", "rearrange"])
+            service = case["call"] + " in the profile" * ("arg profile" in case)
+            AGREED[service] = AGREED.get(service, 0) + 1
+        services = ["build", "build in the profile", "check", "check in the profile", "convert_order", "count", "cuts", "list", "longest", "longest_all", "part"]
+        self.assertEqual(sorted(AGREED), [*services, "read", "rearrange"])
 
     def agrees(self, case, want, kind):
         if want["no"] == "0":
@@ -173,17 +176,20 @@ class Vectors(unittest.TestCase):
 
 
 class Refusals(unittest.TestCase):
-    """Each service refused by each number that concerns it, on the drive `aaaa` and the samples `aa`, with one thing changed."""
+    """Each service refused by each number that concerns it, on the profile drive 0, 1, 0, 1, 0 and the samples 0, 1, 0, with one thing changed."""
 
     NAMES = [
         "TextTooLong", "PatternEmpty", "PatternTooLong", "WorkTooShort", "TableLength", "BadWord", "NotATable", "RangePastEnd", "ResultTooShort", "NoStep",
+        "OffHeading", "NotAtRest",
     ]
     CONCERNED = {
         "build": [1, 4, 9], "check": [4, 5, 6, 7], "read": [4, 5, 6, 7, 9], "extract": [4, 5, 6, 7, 8, 9], "count": [2, 3, 10, 4, 5, 6, 7],
         "locate": [2, 3, 10, 4, 5, 6, 7, 9], "live_cuts": [2, 3, 9], "lyndon_length": [4, 5, 6, 7, 8], "lyndon_array": [4, 5, 6, 7, 9],
-        "to_signed": [4, 5, 6, 7, 9], "to_steps": [1, 9], "from_steps": [1, 9],
+        "to_signed": [4, 5, 6, 7, 9], "to_steps": [1, 9], "from_steps": [1, 9], "build_profile": [1, 11, 12, 4, 9], "check_profile": [4, 5, 6, 7, 11, 12],
     }
-    NEEDED = {"build": 8, "read": 4, "extract": 3, "locate": 3, "live_cuts": 1, "lyndon_array": 4, "to_signed": 12, "to_steps": 2, "from_steps": 2}
+    NEEDED = {
+        "build": 12, "read": 5, "extract": 3, "locate": 2, "live_cuts": 1, "lyndon_array": 5, "to_signed": 14, "to_steps": 3, "from_steps": 3, "build_profile": 12,
+    }
     CHANGED = {
         1: {"samples": bytearray(2048)},
         2: {"samples": bytearray()},
@@ -192,21 +198,25 @@ class Refusals(unittest.TestCase):
         5: {"table": sirbolta.Table([])},
         6: {"table": sirbolta.Table([0, 0xC0000000, 257, 0xC0000000])},
         7: {"table": sirbolta.Table([98, 0xC0000000])},
-        8: {"start": 4, "length": 1, "position": 4},
+        8: {"start": 5, "length": 1, "position": 5},
         9: {"_SAMPLES": 0, "_TABLE": 0, "_CUTS": 0},
-        10: {"samples": bytearray(b"a"), "steps": True},
+        10: {"samples": bytearray(1), "steps": True},
+        11: {"samples": bytearray(b"\1\xff\x09"), "table": sirbolta.build(b"\1\xff\x09", 40)},
+        12: {"samples": bytearray(b"\0\1"), "table": sirbolta.build(b"\0\1", 40)},
     }
 
     def setUp(self):
-        self.usual = {"table": sirbolta.build(b"aaaa", 40), "samples": bytearray(b"aa"), "chair": 40, "start": 0, "length": 3, "position": 3, "steps": False}
+        self.usual = {"table": sirbolta.build(PROFILE, 40), "samples": bytearray(b"\0\1\0"), "chair": 40, "start": 0, "length": 3, "position": 2, "steps": False}
+        built = sirbolta.Table([0, 0xC0000028, 1, 0xC0000000, 2, 0xC0000000, 0x40000001, 0x80000002, 0x40000000, 0x80000003, 0x40000004, 0x80000001])
         self.answers = {
-            "build": sirbolta.Table([0, 0xC0000028, 98, 0xC0000000, 0x40000000, 0x80000001, 0x40000002, 0x80000001]), "check": 6, "read": (b"aaaa", 40),
-            "extract": b"aaa", "count": 3, "locate": [0, 1, 2], "live_cuts": [1], "lyndon_length": 1, "lyndon_array": [1, 1, 1, 1],
-            "to_signed": self.usual["table"], "to_steps": b"a\0", "from_steps": b"a\xc2",
+            "build": built, "check": 7, "read": (PROFILE, 40), "extract": b"\0\1\0", "count": 2, "locate": [0, 2], "live_cuts": [2], "lyndon_length": 2,
+            "lyndon_array": [2, 1, 2, 1, 1], "to_signed": self.usual["table"], "to_steps": b"\0\1\xff", "from_steps": b"\0\1\1", "build_profile": built,
+            "check_profile": 7,
         }
 
     def ask(self, service, given):
         arguments = {"build": ["samples", "chair"], "extract": ["table", "start", "length"], "live_cuts": ["samples"]}
+        arguments |= {"build_profile": ["samples", "chair"], "check_profile": ["table"]}
         arguments |= {"check": ["table"], "read": ["table"], "count": ["table", "samples"], "locate": ["table", "samples"]}
         arguments |= {"lyndon_length": ["table", "position"], "lyndon_array": ["table"], "to_signed": ["table"], "to_steps": ["samples"], "from_steps": ["samples"]}
         named = {"steps": given["steps"]} if service in ("count", "locate") else {}
@@ -222,7 +232,7 @@ class Refusals(unittest.TestCase):
                     lent = {name: value for name, value in given.items() if name.startswith("_")}
                     with patch.multiple(sirbolta, **lent) if lent else nullcontext(), self.assertRaises(refusal) as raised:
                         self.ask(service, given)
-                    place = {6: 2, 9: self.NEEDED.get(service)}.get(number, 0)
+                    place = {6: 2, 9: self.NEEDED.get(service), 11: 1}.get(number, 0)
                     self.assertEqual((raised.exception.number, raised.exception.place), (number, place))
                     self.assertEqual(pickle.dumps(given), before, "an input was written")
                     self.assertEqual({name: self.ask(name, self.usual) for name in self.answers}, self.answers)
@@ -231,7 +241,7 @@ class Refusals(unittest.TestCase):
         self.assertLessEqual(set(self.CONCERNED), set(sirbolta.__all__))
 
     def test_what_does_not_concern_a_service(self):
-        for service, number in [("live_cuts", 4), ("to_steps", 4), ("from_steps", 4), ("check", 9), ("count", 9), ("lyndon_length", 9)]:
+        for service, number in [("live_cuts", 4), ("to_steps", 4), ("from_steps", 4), ("check", 9), ("count", 9), ("lyndon_length", 9), ("check_profile", 9)]:
             with self.subTest(service=service, number=number), patch.multiple(sirbolta, **self.CHANGED[number]):
                 self.assertEqual(self.ask(service, self.usual), self.answers[service])
 
@@ -246,6 +256,9 @@ class Refusals(unittest.TestCase):
     def test_a_refusal_keeps_its_place(self):
         refusal = pickle.loads(pickle.dumps(sirbolta.BadWord(31)))
         self.assertEqual((refusal.number, refusal.place, str(refusal)), (6, 31, "refused 6: word 31 of the table is bad"))
+        refusal = pickle.loads(pickle.dumps(sirbolta.OffHeading(2046)))
+        sentence = "refused 11: byte 2046 of the text is above 8, so neither rest nor a heading"
+        self.assertEqual((refusal.number, refusal.place, str(refusal)), (11, 2046, sentence))
 
 
 class Module(unittest.TestCase):
@@ -257,6 +270,7 @@ class Module(unittest.TestCase):
             ("the chair number is negative", lambda: sirbolta.build(b"", -1)),
             ("the chair number has more than 16 bits", lambda: sirbolta.build(b"", 65_536)),
             ("the chair number has more than 16 bits", lambda: sirbolta.build(b"", 10**5000)),
+            ("the chair number has more than 16 bits", lambda: sirbolta.build_profile(b"", 65_536)),
             ("a word of a table has more than 32 bits", lambda: sirbolta.check([2**32, 0])),
             ("a word of a table is negative", lambda: sirbolta.check([0, -1])),
             ("start is negative", lambda: sirbolta.extract(self.table, -1, 2)),
@@ -300,6 +314,7 @@ class Module(unittest.TestCase):
             self.wrong_type(sentence, sirbolta.lyndon_length, table, 0)
             self.wrong_type(sentence, sirbolta.lyndon_array, table)
             self.wrong_type(sentence, sirbolta.to_signed, table)
+            self.wrong_type(sentence, sirbolta.check_profile, table)
         for table in [array("i"), array("H"), array("Q"), array("f"), (ctypes.c_uint32.__ctype_be__ * 2)()]:
             sentence = f"a table's buffer has single bytes or unsigned words of 32 bits, not the format {memoryview(table).format}"
             self.wrong_type(sentence, sirbolta.Table, table)
@@ -307,6 +322,7 @@ class Module(unittest.TestCase):
         for samples in ["", "abab", 4, [], [97, 98], None, self.table]:
             sentence = f"samples are bytes, not {type(samples).__name__}"
             self.wrong_type(sentence, sirbolta.build, samples, 40)
+            self.wrong_type(sentence, sirbolta.build_profile, samples, 40)
             self.wrong_type(sentence, sirbolta.count, self.table, samples)
             self.wrong_type(sentence, sirbolta.locate, self.table, samples)
             self.wrong_type(sentence, sirbolta.live_cuts, samples)
@@ -323,6 +339,7 @@ class Module(unittest.TestCase):
         for number in [True, False, 1.0, "1", None]:
             kind = type(number).__name__
             self.wrong_type(f"the chair number is a whole number, not {kind}", sirbolta.build, b"abab", number)
+            self.wrong_type(f"the chair number is a whole number, not {kind}", sirbolta.build_profile, PROFILE, number)
             self.wrong_type(f"start is a whole number, not {kind}", sirbolta.extract, self.table, number, 0)
             self.wrong_type(f"length is a whole number, not {kind}", sirbolta.extract, self.table, 0, number)
             self.wrong_type(f"position is a whole number, not {kind}", sirbolta.lyndon_length, self.table, number)
@@ -342,6 +359,7 @@ class Module(unittest.TestCase):
         self.assertEqual(sirbolta.build(Told(b"abab"), 40), self.table)
         self.assertEqual((sirbolta.count(self.table, Told(b"ab")), sirbolta.live_cuts(Told(b"aaba"))), (2, [1, 3]))
         self.assertEqual((sirbolta.to_steps(memoryview(b"a?b?")[::2]), sirbolta.from_steps(Told(b"a\1"))), (b"a\1", b"ab"))
+        self.assertEqual([sirbolta.build_profile(kind, 40).read()[0] for kind in (Told(PROFILE), bytearray(PROFILE), array("b", PROFILE))], [PROFILE] * 3)
 
     def test_largest(self):
         text = bytes(i // 8 ^ 128 for i in range(2047))  # -128 to 127
@@ -381,6 +399,24 @@ class Module(unittest.TestCase):
         for text in [b"", b"a", b"abab", bytes([255]) * 2047, bytes([255, 128] * 3), bytes(i // 16 for i in range(2047)), bytes(255 - i // 16 for i in range(2047))]:
             table = sirbolta.build(text, 40)
             self.assertEqual((sirbolta.Table(former(text, 40)), sirbolta.to_signed(table)), (table, table))
+
+    def test_the_profile(self):
+        for text in [b"\0", bytes(2047), PROFILE, bytes([*range(9), 0]), bytes(i * i % 9 for i in range(2044)) + bytes(3)]:
+            table = sirbolta.build(text, 40)
+            self.assertEqual((sirbolta.build_profile(text, chair=40), table.check_profile()), (table, table.check()))
+            for byte in 9, 127, 128, 255:
+                for place in {0, len(text) // 2, len(text) - 1}:
+                    self.not_in_profile(text[:place] + bytes([byte]) + text[place + 1 :], sirbolta.OffHeading, place)
+        for text in b"\1\0\x09", b"\0\1\xff\x09\0", b"\1\x08\x80":
+            self.not_in_profile(text, sirbolta.OffHeading, 2)
+        for text in b"", b"\1", b"\0\1", b"\1\0", b"\x08\0\x08":
+            self.not_in_profile(text, sirbolta.NotAtRest, 0)
+
+    def not_in_profile(self, text, refusal, place):
+        for service in lambda: sirbolta.build_profile(text, 40), sirbolta.build(text, 40).check_profile:
+            with self.assertRaises(refusal) as raised:
+                service()
+            self.assertEqual(raised.exception.place, place)
 
     def test_threads(self):
         texts = [bytes((i * j * j >> 3) % 7 for j in range(2047)) for i in range(1, 33)]
@@ -475,8 +511,9 @@ class Tables(unittest.TestCase):
         self.assertEqual(repr(self.table), "<sirbolta.Table of 12 words>")
 
     def test_each_method_is_the_function(self):
+        table = sirbolta.build(PROFILE, 40)
         for service, *arguments in [*SERVICES, ("to_signed",)]:
-            self.assertEqual(getattr(self.table, service)(*arguments), getattr(sirbolta, service)(self.table, *arguments))
+            self.assertEqual(getattr(table, service)(*arguments), getattr(sirbolta, service)(table, *arguments))
             with self.assertRaises(sirbolta.TableLength):
                 getattr(sirbolta.Table(b""), service)(*arguments)
 
@@ -567,6 +604,8 @@ class Lending(unittest.TestCase):
         self.given_back(sirbolta.build, array("I", [0]), 40)
         self.given_back(sirbolta.to_steps, bytearray(2048))
         self.given_back(sirbolta.from_steps, array("I", [0]))
+        self.given_back(sirbolta.build_profile, bytearray(b"\1"), 40)
+        self.given_back(sirbolta.check_profile, bytearray(words))
 
     def given_back(self, service, buffer, *arguments):
         try:
@@ -631,6 +670,7 @@ class Stacks(unittest.TestCase):
         self.assertRaisesRegex(RuntimeError, "240 KiB of stack are needed, and this thread has 12[0-9] KiB in all", table.read)
         self.assertRaisesRegex(RuntimeError, "240 KiB of stack are needed, and this thread has 12[0-9] KiB in all", table.locate, b"a")
         self.assertEqual((table.check(), table.count(b"a"), table.extract(2046, 1)), (2049, 2047, b"a"))
+        self.assertEqual((sirbolta.build_profile(bytes(2047), 40).check_profile(), sirbolta.build(bytes(2047), 40).check_profile()), (2049, 2049))
         self.assertEqual((table.lyndon_length(0), table.lyndon_array(), table.to_signed()), (1, [1] * 2047, table))
         self.assertEqual((table.count(b"aa", steps=True), sirbolta.from_steps(sirbolta.to_steps(self.TEXTS[2]))), (0, self.TEXTS[2]))
 

@@ -49,6 +49,8 @@ fn serve(call: &Call, lent: &Slices) -> (Outcome, Slices) {
         Call::ToSigned { table } => sirbolta::to_signed(table, work, words),
         Call::ToSteps { text } => sirbolta::to_steps(text, bytes),
         Call::FromSteps { text } => sirbolta::from_steps(text, bytes),
+        Call::BuildProfile { text, chair } => sirbolta::build_profile(text, *chair, work, words),
+        Call::CheckProfile { table } => sirbolta::check_profile(table, work),
         Call::Read { table } => return (outcome(sirbolta::read(table, work, bytes), |read| (read.samples, read.chair, 0)), left),
         Call::Count { table, pattern, .. } => {
             let count = sirbolta::count(table, content, pattern, &mut work.clone());
@@ -76,8 +78,8 @@ fn outcome<T>(answer: Result<T, Refusal>, numbers: impl FnOnce(T) -> (usize, u16
     }
 }
 
-/// The largest table, also converted, the most positions, the most tests, the most cuts, the most and longest Lyndon words, and the longest drive rearranged and
-/// restored, in slices of the lengths that the module names.
+/// The largest table, also converted, the most positions, the most tests, the most cuts, the most and longest Lyndon words, the longest drive rearranged and
+/// restored, and the longest profile drive, in slices of the lengths that the module names.
 fn largest() {
     let mut work = vec![7; WORK];
     let mut result = vec![7; TABLE];
@@ -117,6 +119,13 @@ fn largest() {
     assert!(steps.iter().copied().eq((0..2047).map(|i| if i == 0 { 128 } else { (i % 8 == 0) as u8 })));
     assert_eq!(sirbolta::from_steps(&steps, &mut bytes), Ok(2047));
     assert_eq!(bytes, text);
+    let mut drive: Vec<u8> = (0..2047u32).map(|i| (i * i / 7 % 9) as u8).collect();
+    drive[2046] = 0;
+    let words = sirbolta::build_profile(&drive, 65535, &mut work, &mut result).unwrap();
+    assert_eq!(result[..words], table_of(&drive));
+    assert_eq!(sirbolta::check_profile(&result[..words], &mut work), Ok(words / 2));
+    drive[2045] = 9;
+    assert_eq!(sirbolta::check_profile(&table_of(&drive), &mut work), Err(Refusal::OffHeading { at: 2045 }));
 }
 
 /// The table of a text and the largest chair number.
@@ -144,6 +153,8 @@ fn every_refusal() {
         sirbolta::extract(&table, 3, usize::MAX, &mut work, &mut bytes),
         sirbolta::locate(&table, Content::Samples, b"aa", &mut work, &mut result[..2]),
         sirbolta::count(&table, Content::Steps, b"a", &mut work),
+        sirbolta::build_profile(&[1, 0, 9, 255], 40, &mut work, &mut result),
+        sirbolta::build_profile(&[0, 8], 40, &mut work, &mut result),
     ];
     let names = [
         Refusal::TextTooLong,
@@ -156,6 +167,8 @@ fn every_refusal() {
         Refusal::RangePastEnd,
         Refusal::ResultTooShort { needed: 3 },
         Refusal::NoStep,
+        Refusal::OffHeading { at: 2 },
+        Refusal::NotAtRest,
     ];
     assert_eq!(names.len(), REFUSALS);
     for (i, (answer, name)) in answers.into_iter().zip(names).enumerate() {
@@ -169,6 +182,11 @@ fn every_refusal() {
     assert_eq!(sirbolta::locate(&table, Content::Steps, b"a", &mut work[1..], &mut result), Err(Refusal::NoStep));
     assert_eq!(sirbolta::to_steps(b"aaaa", &mut bytes[..3]), Err(Refusal::ResultTooShort { needed: 4 }));
     assert_eq!(sirbolta::from_steps(&[0; 2048], &mut bytes), Err(Refusal::TextTooLong));
+    assert_eq!(sirbolta::build_profile(&[9; 2048], 40, &mut work, &mut result), Err(Refusal::TextTooLong));
+    assert_eq!(sirbolta::build_profile(&[], 40, &mut work[1..], &mut result), Err(Refusal::NotAtRest));
+    assert_eq!(sirbolta::build_profile(&[0, 1, 0], 40, &mut work, &mut result[..11]), Err(Refusal::ResultTooShort { needed: 12 }));
+    assert_eq!(sirbolta::check_profile(&table, &mut work), Err(Refusal::OffHeading { at: 0 }));
+    assert_eq!(sirbolta::check_profile(&table, &mut work[1..]), Err(Refusal::WorkTooShort));
     assert_eq!(sirbolta::read(&table, &mut work, &mut bytes), Ok(Reading { samples: 4, chair: 40 }));
     assert_eq!(&bytes[..5], b"aaaa\x07");
 }

@@ -15,6 +15,8 @@ pub enum Call {
     ToSigned { table: Vec<u32> },
     ToSteps { text: Vec<u8> },
     FromSteps { text: Vec<u8> },
+    BuildProfile { text: Vec<u8>, chair: u16 },
+    CheckProfile { table: Vec<u32> },
 }
 
 /// The slices lent to a call. The result slice is the one in the service's unit, words or bytes; a slice that the service does not take is empty.
@@ -36,13 +38,13 @@ pub struct Outcome {
 }
 
 /// The services; a search by steps has a name of its own.
-pub const SERVICES: [&str; 14] = [
+pub const SERVICES: [&str; 16] = [
     "build", "check", "read", "extract", "count", "locate", "cuts", "lyndon length", "lyndon array", "to signed", "to steps", "from steps", "count by steps",
-    "locate by steps",
+    "locate by steps", "build profile", "check profile",
 ];
 
 /// The highest number of a refusal.
-pub const REFUSALS: usize = 10;
+pub const REFUSALS: usize = 12;
 
 /// The bit of a form that says that the table holds steps.
 pub const STEPS: u32 = 1;
@@ -65,6 +67,8 @@ impl Call {
             Call::ToSigned { .. } => 9,
             Call::ToSteps { .. } => 10,
             Call::FromSteps { .. } => 11,
+            Call::BuildProfile { .. } => 14,
+            Call::CheckProfile { .. } => 15,
         }
     }
 

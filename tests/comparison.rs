@@ -18,9 +18,11 @@ use tally::Tally;
 fn main() {
     let long = std::thread::spawn(|| Comparison::new(0x9E3779B97F4A7C15).long_texts());
     let misruled = std::thread::spawn(|| Comparison::new(0xA0761D6478BD642F).misruled_tables(100_000));
+    let profiles = std::thread::spawn(|| Comparison::new(0xE7037ED1A0B428DB).profiles());
     let mut tally = Comparison::new(0xD1B54A32D192ED03).short_texts();
     tally.add_all(&long.join().unwrap());
     tally.add_all(&misruled.join().unwrap());
+    tally.add_all(&profiles.join().unwrap());
     println!("comparison: {} calls agree with the naive implementation", tally.total());
     tally.print();
 }
@@ -42,6 +44,7 @@ impl Comparison {
         self.powers();
         for table in (1..=5).flat_map(every_table) {
             self.compare_once(Call::Check { table: table.clone() });
+            self.compare_once(Call::CheckProfile { table: table.clone() });
             self.compare_once(Call::ToSigned { table });
         }
         for _ in 0..4000 {
@@ -82,6 +85,50 @@ impl Comparison {
             }
         }
         self.tally
+    }
+
+    /// Building and checking in the profile: every drive of rest, two headings and the bytes at the bounds of the profile and of both orders up to 4 samples; every
+    /// byte alone and between rests; and profile drives of other lengths, with drives and tables made from them.
+    fn profiles(mut self) -> Tally {
+        let small = (0..=4).flat_map(|n| every_text(&[0, 1, 8, 9, 127, 128, 255], n));
+        for drive in small.chain((0..=255).flat_map(|byte| [vec![byte], vec![0, byte, 0]])) {
+            self.in_profile(&drive);
+        }
+        for n in [2046, 2047, 2048, 3000] {
+            for _ in 0..4 {
+                self.profile(n);
+            }
+        }
+        for _ in 0..1000 {
+            let n = self.generator.below(61);
+            self.profile(n);
+        }
+        for _ in 0..12 {
+            let n = self.generator.below(2048);
+            self.profile(n);
+        }
+        self.tally
+    }
+
+    /// A profile drive of n samples, and four drives made from it, most of which are none.
+    fn profile(&mut self, n: usize) {
+        let drive = self.generator.profile(n);
+        self.in_profile(&drive);
+        for _ in 0..4 {
+            let other = self.generator.off_profile(&drive);
+            self.in_profile(&other);
+        }
+    }
+
+    /// A drive built in the profile; its table, and two made from it, checked there.
+    fn in_profile(&mut self, drive: &[u8]) {
+        let chair = self.generator.chair();
+        self.compare(Call::BuildProfile { text: drive.to_vec(), chair });
+        let table = self.table_of(&drive[..drive.len().min(2047)], chair);
+        let (damaged, misruled) = (self.generator.damaged(&table), self.generator.misruled(&table));
+        for table in [table, damaged, misruled] {
+            self.compare(Call::CheckProfile { table });
+        }
     }
 
     /// Every text of the samples 1 and -1 up to 7 samples, with every pattern up to 4, as samples and as steps, and every position, and listed cuts, Lyndon arrays and
@@ -186,11 +233,13 @@ impl Comparison {
     fn text(&mut self, text: &[u8], searches: usize, damages: usize) {
         let chair = self.generator.chair();
         self.compare(Call::Build { text: text.to_vec(), chair });
+        self.compare(Call::BuildProfile { text: text.to_vec(), chair });
         self.compare(Call::ToSteps { text: text.to_vec() });
         self.compare(Call::FromSteps { text: text.to_vec() });
         let text = &text[..text.len().min(2047)];
         let table = self.table_of(text, chair);
         self.compare(Call::Check { table: table.clone() });
+        self.compare(Call::CheckProfile { table: table.clone() });
         self.compare(Call::Read { table: table.clone() });
         for _ in 0..searches {
             self.search(&table, text);
@@ -297,12 +346,12 @@ impl Comparison {
     fn lent(&mut self, call: &Call, work: usize, result: usize) -> Slices {
         let g = &mut self.generator;
         match call {
-            Call::Build { .. } | Call::Locate { .. } | Call::LyndonArray { .. } | Call::ToSigned { .. } => {
+            Call::Build { .. } | Call::BuildProfile { .. } | Call::Locate { .. } | Call::LyndonArray { .. } | Call::ToSigned { .. } => {
                 Slices { work: g.words(work), words: g.words(result), bytes: vec![] }
             }
             Call::Read { .. } | Call::Extract { .. } => Slices { work: g.words(work), words: vec![], bytes: g.bytes(result) },
             Call::ToSteps { .. } | Call::FromSteps { .. } => Slices { work: vec![], words: vec![], bytes: g.bytes(result) },
-            Call::Check { .. } | Call::Count { .. } | Call::LyndonLength { .. } => {
+            Call::Check { .. } | Call::CheckProfile { .. } | Call::Count { .. } | Call::LyndonLength { .. } => {
                 Slices { work: g.words(work), words: vec![], bytes: vec![] }
             }
             Call::Cuts { .. } => Slices { work: vec![], words: g.words(result), bytes: vec![] },

@@ -20,6 +20,9 @@ static const uint32_t abab[WORDS] = {0x00000000, 0xC0000028, 0x00000062, 0xC0000
                                      0x40000001, 0x80000002, 0x40000000, 0x80000003, 0x40000004, 0x80000003};
 static const uint32_t lengths[4] = {2, 1, 2, 1};
 static const uint32_t finds[3] = {0, 1, 3};
+/* The table of the profile drive 0, 1, 0. */
+static const uint32_t profile[WORDS] = {0x00000000, 0xC0000028, 0x00000001, 0xC0000000, 0x00000002, 0xC0000000,
+                                        0x40000001, 0x80000002, 0x40000000, 0x80000003, 0x40000004, 0x80000001};
 /* The table of the drive -1, 1, and its former one: there the first sample is the greater. */
 static const uint32_t rising[10] = {0x00000000, 0xC0000028, 0x00000100, 0xC0000000, 0x00000002, 0xC0000000, 0x40000001, 0x80000002, 0x40000000, 0x80000003};
 static const uint32_t former[10] = {0x00000000, 0xC0000028, 0x00000100, 0xC0000000, 0x40000000, 0x80000001, 0x00000002, 0xC0000000, 0x40000002, 0x80000003};
@@ -46,6 +49,7 @@ static int found(sirbolta_search_reply r, uint32_t number, uint64_t place, uint6
 
 int main(void) {
     const uint8_t text[4] = {97, 98, 97, 98}, equal[4] = {97, 97, 97, 97}, drive[5] = {5, 7, 9, 3, 5}, steps[5] = {5, 2, 2, 250, 2}, motif[2] = {0, 2};
+    const uint8_t turn[3] = {0, 1, 0}, off[4] = {1, 0, 9, 255};
     want("interface", sirbolta_interface() == SIRBOLTA_INTERFACE);
     want("build", is(sirbolta_build(text, 4, 40, work, WORK, words, WORDS), 0, 0, WORDS, 0) && memcmp(words, abab, sizeof abab) == 0);
     want("check", is(sirbolta_check(abab, WORDS, work, WORK), 0, 0, 6, 0));
@@ -72,6 +76,12 @@ int main(void) {
     want("count by samples, every other bit set", found(sirbolta_count(table, n, 0xFFFFFFFE, steps + 1, 2, work, WORK), 0, 0, 1, 5));
     want("count of one sample by steps", found(sirbolta_count(table, n, SIRBOLTA_STEPS, motif, 1, work, WORK), 10, 0, 0, 0));
     want("locate by steps", found(sirbolta_locate(table, n, SIRBOLTA_STEPS, motif, 2, work, WORK, words, 3), 0, 0, 3, 0) && memcmp(words, finds, sizeof finds) == 0);
-    if (!wrong) printf("header: 25 calls from C are right\n");
+    want("build_profile", is(sirbolta_build_profile(turn, 3, 40, work, WORK, words, WORDS), 0, 0, WORDS, 0) && memcmp(words, profile, sizeof profile) == 0);
+    want("build_profile off heading", is(sirbolta_build_profile(off, 4, 40, work, WORK, words, WORDS), 11, 2, 0, 0));
+    want("build_profile not at rest", is(sirbolta_build_profile(off, 2, 40, work, WORK, words, WORDS), 12, 0, 0, 0));
+    want("build_profile of a null text", is(sirbolta_build_profile(NULL, 0, 40, NULL, 0, NULL, 0), 12, 0, 0, 0));
+    want("check_profile", is(sirbolta_check_profile(profile, WORDS, work, WORK), 0, 0, 6, 0));
+    want("check_profile off heading", is(sirbolta_check_profile(abab, WORDS, work, WORK), 11, 0, 0, 0));
+    if (!wrong) printf("header: 31 calls from C are right\n");
     return wrong;
 }

@@ -119,6 +119,27 @@ impl Generator {
         other
     }
 
+    /// A profile drive of n samples, or an empty one: rest and headings, the ends at rest.
+    pub fn profile(&mut self, n: usize) -> Vec<u8> {
+        let mut drive: Vec<u8> = self.text(n).iter().map(|sample| sample % 9).collect();
+        for end in [0, n.wrapping_sub(1)] {
+            drive.get_mut(end).into_iter().for_each(|sample| *sample = 0);
+        }
+        drive
+    }
+
+    /// The samples with up to three of them changed, often at or beside an end, and often to a byte at a bound of the profile or of an order.
+    pub fn off_profile(&mut self, samples: &[u8]) -> Vec<u8> {
+        let (mut other, n) = (samples.to_vec(), samples.len());
+        for _ in 0..1 + self.below(3) {
+            let (place, byte) = (self.below(n), self.next() as u8);
+            let i = self.one_of(&[0, 1, n / 2, n.wrapping_sub(2), n.wrapping_sub(1), place]);
+            let byte = self.one_of(&[0, 1, 8, 9, 9, 127, 128, 255, byte]);
+            other.get_mut(i).into_iter().for_each(|sample| *sample = byte);
+        }
+        other
+    }
+
     /// A pattern for a text: cut from it, cut and changed, of its values, longer than it, at a limit, or another text.
     pub fn pattern(&mut self, text: &[u8]) -> Vec<u8> {
         let short = 1 + self.below(6);

@@ -32,6 +32,8 @@ pub fn serve(call: &Call, lent: &Slices, null: bool) -> Result<(Outcome, Slices)
             Call::ToSigned { .. } => replied(sirbolta_to_signed(t, tn, w, wn, r, rn)),
             Call::ToSteps { .. } => replied(sirbolta_to_steps(s, sn, b, bn)),
             Call::FromSteps { .. } => replied(sirbolta_from_steps(s, sn, b, bn)),
+            Call::BuildProfile { chair, .. } => replied(sirbolta_build_profile(s, sn, *chair, w, wn, r, rn)),
+            Call::CheckProfile { .. } => replied(sirbolta_check_profile(t, tn, w, wn)),
         }
     };
     if text_lent.taken_back("samples")? != text || table_lent.taken_back("table")? != table {
@@ -44,8 +46,8 @@ pub fn serve(call: &Call, lent: &Slices, null: bool) -> Result<(Outcome, Slices)
 /// The samples, of a text or a pattern, and the table that the call hands over.
 fn inputs(call: &Call) -> (&[u8], &[u32]) {
     match call {
-        Call::Build { text, .. } | Call::ToSteps { text } | Call::FromSteps { text } => (text, &[]),
-        Call::Check { table } | Call::Read { table } | Call::Extract { table, .. } => (&[], table),
+        Call::Build { text, .. } | Call::BuildProfile { text, .. } | Call::ToSteps { text } | Call::FromSteps { text } => (text, &[]),
+        Call::Check { table } | Call::CheckProfile { table } | Call::Read { table } | Call::Extract { table, .. } => (&[], table),
         Call::Count { table, pattern, .. } | Call::Locate { table, pattern, .. } => (pattern, table),
         Call::Cuts { pattern } => (pattern, &[]),
         Call::LyndonLength { table, .. } | Call::LyndonArray { table } | Call::ToSigned { table } => (&[], table),

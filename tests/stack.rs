@@ -36,7 +36,7 @@ fn texts() -> [Vec<u8>; 4] {
 /// The services that do not recurse.
 fn flat(text: &[u8]) -> usize {
     let counts: usize = searches(text).map(count).iter().sum();
-    check(text) + extract(text) + counts + cut(text) + longest(text) + convert(text) + rearrange(text)
+    check(text) + extract(text) + counts + cut(text) + longest(text) + convert(text) + rearrange(text) + profile(text)
 }
 
 /// Those that do.
@@ -211,6 +211,28 @@ fn rearrange(text: &[u8]) -> usize {
     assert_eq!((there.number, there.count), (0, 2047));
     assert_eq!(again, text);
     2
+}
+
+/// Builds and checks the profile drive with the headings that the samples modulo 9 are and with its ends at rest; with a byte 9 in its last place but one, and with
+/// a heading in its last, it and its table are refused.
+fn profile(text: &[u8]) -> usize {
+    let mut drive: Vec<u8> = text.iter().map(|sample| sample % 9).collect();
+    (drive[0], drive[2046]) = (0, 0);
+    let ends = [([drive[2045], 0], 0, 0), ([9, 0], 11, 2045), ([9, 8], 11, 2045), ([8, 8], 12, 0)];
+    for (end, number, place) in ends {
+        drive[2045..].copy_from_slice(&end);
+        let table = table_of(&drive);
+        let mut work = vec![7u32; 16384];
+        let (w, n) = (work.as_mut_ptr(), work.len());
+        let mut result = vec![7u32; table.len()];
+        let built = unsafe { sirbolta_build_profile(drive.as_ptr(), 2047, CHAIR, w, n, result.as_mut_ptr(), result.len()) };
+        let checked = unsafe { sirbolta_check_profile(table.as_ptr(), table.len(), w, n) };
+        let (words, left) = if number == 0 { (table.len(), table) } else { (0, vec![7; table.len()]) };
+        assert_eq!((built.number, built.place, built.count as usize), (number, place, words));
+        assert_eq!((checked.number, checked.place, checked.count as usize), (number, place, words / 2));
+        assert_eq!(result, left);
+    }
+    2 * ends.len()
 }
 
 /// The drive that is rearranged to these steps: each sample is the sum of the entries up to it.

@@ -52,7 +52,7 @@ fn items<'a>(lines: &[&'a str]) -> Result<Items<'a>, String> {
 }
 
 fn test(mut items: Items) -> Result<Test, String> {
-    if take(&mut items, "stage")? != "6" {
+    if take(&mut items, "stage")? != "7" {
         return Err("an unknown stage".into());
     }
     let test = match take(&mut items, "call")? {
@@ -78,8 +78,11 @@ fn call(service: &str, items: &mut Items) -> Result<Call, String> {
     let number = |items: &mut Items, key: &str| take(items, key).and_then(number_of::<usize>);
     Ok(match service {
         "build" => {
-            let chair = take(items, "arg chair").and_then(number_of)?;
-            Call::Build { text: entries(take(items, "arg drive")?)?, chair }
+            let (text, chair) = (entries(take(items, "arg drive")?)?, take(items, "arg chair").and_then(number_of)?);
+            match profile(items)? {
+                true => Call::BuildProfile { text, chair },
+                false => Call::Build { text, chair },
+            }
         }
         "cuts" => Call::Cuts { pattern: entries(take(items, "arg motif")?)? },
         "rearrange" => {
@@ -92,7 +95,10 @@ fn call(service: &str, items: &mut Items) -> Result<Call, String> {
         _ => {
             let table: Vec<u32> = entries(take(items, "arg table")?)?;
             match service {
-                "check" => Call::Check { table },
+                "check" => match profile(items)? {
+                    true => Call::CheckProfile { table },
+                    false => Call::Check { table },
+                },
                 "read" => Call::Read { table },
                 "part" => Call::Extract { table, start: number(items, "arg start")?, length: number(items, "arg length")? },
                 "count" => Call::Count { table, form: form(items)?, pattern: entries(take(items, "arg motif")?)? },
@@ -106,6 +112,15 @@ fn call(service: &str, items: &mut Items) -> Result<Call, String> {
     })
 }
 
+/// Whether a table is built or checked in the profile: then the case says so by a 1, else it says nothing.
+fn profile(items: &mut Items) -> Result<bool, String> {
+    match items.remove("arg profile") {
+        None => Ok(false),
+        Some("1") => Ok(true),
+        Some(digits) => Err(format!("arg profile {digits:.40}")),
+    }
+}
+
 fn form(items: &mut Items) -> Result<u32, String> {
     Ok(bit(take(items, "arg steps")?)? * STEPS)
 }
@@ -113,9 +128,10 @@ fn form(items: &mut Items) -> Result<u32, String> {
 /// The unit of the service's result slice, if it has one.
 fn unit(call: &Call) -> Option<&'static str> {
     match call {
-        Call::Build { .. } | Call::Locate { .. } | Call::Cuts { .. } | Call::LyndonArray { .. } | Call::ToSigned { .. } => Some("words"),
+        Call::Build { .. } | Call::BuildProfile { .. } | Call::Locate { .. } | Call::Cuts { .. } => Some("words"),
+        Call::LyndonArray { .. } | Call::ToSigned { .. } => Some("words"),
         Call::Read { .. } | Call::Extract { .. } | Call::ToSteps { .. } | Call::FromSteps { .. } => Some("bytes"),
-        Call::Check { .. } | Call::Count { .. } | Call::LyndonLength { .. } => None,
+        Call::Check { .. } | Call::CheckProfile { .. } | Call::Count { .. } | Call::LyndonLength { .. } => None,
     }
 }
 

@@ -1,5 +1,5 @@
-//! Runs the cases of vector files on the library and on a program: `vectors PROGRAM FILE..`. A case that disagrees, is of an unknown kind or wants
-//! a program that is not there is printed and fails the run.
+//! Runs the cases of vector files on the library and on the programs of a folder: `vectors FOLDER FILE..`. A case that disagrees, is of an unknown kind or
+//! wants a program that is not there is printed and fails the run.
 
 mod calls;
 mod lending;
@@ -12,14 +12,17 @@ use std::path::Path;
 use std::process::{exit, Command, Stdio};
 use vector_file::{cases, Case, Test};
 
+/// The programs: what vector files call each, and its file.
+const PROGRAMS: [(&str, &str); 2] = [("motif", "motif"), ("desk", "desk_report")];
+
 fn main() {
     let arguments: Vec<String> = std::env::args().skip(1).collect();
-    let Some((program, files)) = arguments.split_first().filter(|(_, files)| !files.is_empty()) else {
-        println!("usage: vectors PROGRAM FILE..");
+    let Some((folder, files)) = arguments.split_first().filter(|(_, files)| !files.is_empty()) else {
+        println!("usage: vectors FOLDER FILE..");
         exit(2);
     };
     for file in files {
-        match run(file, program) {
+        match run(file, Path::new(folder)) {
             Ok(counts) => println!("vectors: {file}: {counts}"),
             Err(wrong) => {
                 println!("vectors: {file}: {wrong}");
@@ -29,24 +32,24 @@ fn main() {
     }
 }
 
-/// How many cases agree, of which service.
-fn run(file: &str, program: &str) -> Result<String, String> {
+/// How many cases agree, of which service or program.
+fn run(file: &str, folder: &Path) -> Result<String, String> {
     let cases = cases(&std::fs::read_to_string(file).map_err(|wrong| wrong.to_string())?)?;
-    let mut counts = [0; SERVICES.len() + 1];
+    let mut counts = [0; SERVICES.len() + PROGRAMS.len()];
     for case in &cases {
-        let service = agrees(case, Path::new(program)).map_err(|wrong| format!("case {}: {wrong}", case.number))?;
+        let service = agrees(case, folder).map_err(|wrong| format!("case {}: {wrong}", case.number))?;
         counts[service] += 1;
     }
     if cases.is_empty() {
         return Err("no case".into());
     }
-    let names = SERVICES.iter().chain(&["program"]);
+    let names = SERVICES.into_iter().chain(PROGRAMS.map(|(_, program)| program));
     let each: Vec<String> = names.zip(counts).map(|(name, count)| format!("{name} {count}")).collect();
     Ok(format!("{} cases agree ({})", cases.len(), each.join(", ")))
 }
 
-/// The service of a case that agrees, as its place in `SERVICES`; a program comes behind them.
-fn agrees(case: &Case, program: &Path) -> Result<usize, String> {
+/// The service of a case that agrees, as its place in `SERVICES`; the programs come behind them.
+fn agrees(case: &Case, folder: &Path) -> Result<usize, String> {
     match &case.test {
         Test::Service { call, lent, want } => {
             for null in [false, true] {
@@ -58,11 +61,9 @@ fn agrees(case: &Case, program: &Path) -> Result<usize, String> {
             Ok(call.service())
         }
         Test::Program { name, stdin, stdout } => {
-            if program.file_name() != Some(name.as_ref()) {
-                return Err(format!("a program {name}, not {}", program.display()));
-            }
-            match printed(program, stdin)? {
-                got if got == *stdout => Ok(SERVICES.len()),
+            let program = PROGRAMS.iter().position(|(called, _)| called == name).ok_or(format!("an unknown program: {name}"))?;
+            match printed(&folder.join(PROGRAMS[program].1), stdin)? {
+                got if got == *stdout => Ok(SERVICES.len() + program),
                 got => Err(format!("printed {:?}, not {:?}", String::from_utf8_lossy(&got), String::from_utf8_lossy(stdout))),
             }
         }

@@ -5,9 +5,9 @@
 //!
 //! The work slice needs `WORK` words, the result slice as many entries as the result has; what they held before plays no part. On success the result
 //! stands at the front of the result slice and the rest is as it was; after a refusal all of it is as it was. The work slice is as it was after
-//! `WorkTooShort`, `TableLength`, `BadWord` and any refusal whose check comes before these; after the others and success its first `WORK` words are 0 and
-//! the rest is as it was. Reading back and locating take up to 240 KiB of stack, every other service less than 4 KiB: a thread that reads back or locates
-//! wants a stack above that, as Rust's own have.
+//! `WorkTooShort`, `TableLength`, `BadWord` and any refusal whose check comes before these, so also after `OffHeading` and `NotAtRest` of `build_profile`;
+//! after the others, so also after these two of `check_profile`, and after success its first `WORK` words are 0 and the rest is as it was. Reading back and
+//! locating take up to 240 KiB of stack, every other service less than 4 KiB: a thread that reads back or locates wants a stack above that, as Rust's own have.
 //!
 //! Samples are compared as signed numbers, a byte of 128 or more meaning itself minus 256. A former table is one that was built while they were compared as
 //! unsigned numbers. `to_signed` takes former tables and no others; to every other function they are `NotATable`, unless all samples of the text are below 128
@@ -16,6 +16,10 @@
 //! A drive may be rearranged to steps before its table is built: the first sample is kept, and each later one becomes a step, its difference from the one before,
 //! modulo 256. The table does not say that it holds steps; the caller says so, by `Content`, to the functions that search. Every other function takes the text as
 //! it stands.
+//!
+//! A profile drive is that of a switch joystick: byte 0 is rest, 1 to 8 are the headings. It is not empty, begins and ends at rest, and has no byte above 8, read
+//! as an unsigned number. A profile table is the table of such a drive, and every function takes it. `build_profile` and `check_profile` refuse all other drives
+//! and tables.
 //!
 //! A program with a library of another interface number ends before `main` and says so.
 #![allow(dead_code)]
@@ -69,6 +73,13 @@ pub enum Refusal {
     },
     /// It comes behind `PatternTooLong` and before `WorkTooShort`.
     NoStep,
+    /// It comes behind `TextTooLong` and before `WorkTooShort` when building, and behind `NotATable` when checking.
+    OffHeading {
+        /// The lowest index of a byte above 8.
+        at: usize,
+    },
+    /// It comes behind `OffHeading`.
+    NotAtRest,
 }
 
 /// A text read back: how many samples were written, and the chair number.
@@ -175,6 +186,18 @@ pub fn from_steps(steps: &[u8], result: &mut [u8]) -> Result<usize, Refusal> {
     counted(unsafe { sirbolta_from_steps(steps.as_ptr(), steps.len(), result.as_mut_ptr(), result.len()) })
 }
 
+/// Writes the table of a profile drive and a chair number, which is what `build` writes of them, and answers how many words it has; `OffHeading` or `NotAtRest` where
+/// the text is no profile drive.
+pub fn build_profile(text: &[u8], chair: u16, work: &mut [u32], result: &mut [u32]) -> Result<usize, Refusal> {
+    let (w, n, r, m) = (work.as_mut_ptr(), work.len(), result.as_mut_ptr(), result.len());
+    counted(unsafe { sirbolta_build_profile(text.as_ptr(), text.len(), chair, w, n, r, m) })
+}
+
+/// Answers how many rules the table has, if it is that of some profile drive and chair number; `OffHeading` or `NotAtRest` where it is that of another text.
+pub fn check_profile(table: &[u32], work: &mut [u32]) -> Result<usize, Refusal> {
+    counted(unsafe { sirbolta_check_profile(table.as_ptr(), table.len(), work.as_mut_ptr(), work.len()) })
+}
+
 impl Content {
     fn form(self) -> u32 {
         match self {
@@ -198,13 +221,15 @@ impl Refusal {
             Refusal::RangePastEnd => 8,
             Refusal::ResultTooShort { .. } => 9,
             Refusal::NoStep => 10,
+            Refusal::OffHeading { .. } => 11,
+            Refusal::NotAtRest => 12,
         }
     }
 
-    /// The index of the bad word, the entries needed, otherwise 0.
+    /// The index of the bad word, the entries needed, the index of the byte above 8, otherwise 0.
     pub fn place(self) -> usize {
         match self {
-            Refusal::BadWord { at } => at,
+            Refusal::BadWord { at } | Refusal::OffHeading { at } => at,
             Refusal::ResultTooShort { needed } => needed,
             _ => 0,
         }
@@ -222,6 +247,8 @@ impl Refusal {
             8 => Refusal::RangePastEnd,
             9 => Refusal::ResultTooShort { needed: place },
             10 => Refusal::NoStep,
+            11 => Refusal::OffHeading { at: place },
+            12 => Refusal::NotAtRest,
             _ => unreachable!("the library has no refusal {number}"),
         }
     }
@@ -241,6 +268,8 @@ impl fmt::Display for Refusal {
             Refusal::RangePastEnd => write!(f, "the range or position reaches past the end of the text"),
             Refusal::ResultTooShort { needed } => write!(f, "the result slice is too short, {needed} entries are needed"),
             Refusal::NoStep => write!(f, "the pattern has one sample, so no step by which to search a table that holds steps"),
+            Refusal::OffHeading { at } => write!(f, "byte {at} of the text is above 8, so neither rest nor a heading"),
+            Refusal::NotAtRest => write!(f, "the text is empty, or does not begin and end at rest"),
         }
     }
 }
@@ -306,4 +335,6 @@ unsafe extern "C" {
     fn sirbolta_to_signed(table: *const u32, table_len: usize, work: *mut u32, work_len: usize, result: *mut u32, result_len: usize) -> Reply;
     fn sirbolta_to_steps(text: *const u8, text_len: usize, result: *mut u8, result_len: usize) -> Reply;
     fn sirbolta_from_steps(text: *const u8, text_len: usize, result: *mut u8, result_len: usize) -> Reply;
+    fn sirbolta_build_profile(text: *const u8, text_len: usize, chair: u16, work: *mut u32, work_len: usize, result: *mut u32, result_len: usize) -> Reply;
+    fn sirbolta_check_profile(table: *const u32, table_len: usize, work: *mut u32, work_len: usize) -> Reply;
 }

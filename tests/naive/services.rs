@@ -1,6 +1,7 @@
 //! What each service answers and leaves in the slices: of its checks, the first that is met decides.
 
 use super::order::Order;
+use super::profile::{not_at_rest, off_heading};
 use super::steps::{finds_by_steps, from_steps, steps_of, to_steps};
 use super::tables::{bad_word, drive_of, halves, table_of};
 use super::words::{listed_cuts, lyndon_array, occurrences};
@@ -99,6 +100,8 @@ impl Naive {
                 return (there < needed).then_some(needed);
             }
             10 => call.by_steps() && pattern(call).len() == 1,
+            11 => return off_heading(&self.profiled(call)),
+            12 => not_at_rest(&self.profiled(call)),
             _ => unreachable!("no refusal {number}"),
         };
         met.then_some(0)
@@ -108,7 +111,7 @@ impl Naive {
     /// number, a search its tests.
     fn success(&mut self, call: &Call, entries: usize) -> Outcome {
         let (count, chair) = match call {
-            Call::Check { table } => (table.len() / 2, 0),
+            Call::Check { table } | Call::CheckProfile { table } => (table.len() / 2, 0),
             Call::Count { .. } => (self.finds(call).len(), 0),
             Call::LyndonLength { position, .. } => (self.lyndon_array(call)[*position], 0),
             Call::Read { .. } => (entries, self.chair(call)),
@@ -143,7 +146,7 @@ impl Naive {
 
     fn written(&mut self, call: &Call) -> Written {
         match call {
-            Call::Build { text, chair } => Written::Words(self.build(text, *chair)),
+            Call::Build { text, chair } | Call::BuildProfile { text, chair } => Written::Words(self.build(text, *chair)),
             Call::Read { .. } => Written::Bytes(self.drive(call)),
             Call::Extract { start, length, .. } => Written::Bytes(self.drive(call)[*start..*start + *length].to_vec()),
             Call::Locate { .. } => Written::Words(as_words(&self.finds(call))),
@@ -155,7 +158,7 @@ impl Naive {
             }
             Call::ToSteps { text } => Written::Bytes(to_steps(text)),
             Call::FromSteps { text } => Written::Bytes(from_steps(text)),
-            Call::Check { .. } | Call::Count { .. } | Call::LyndonLength { .. } => Written::Nothing,
+            Call::Check { .. } | Call::CheckProfile { .. } | Call::Count { .. } | Call::LyndonLength { .. } => Written::Nothing,
         }
     }
 
@@ -164,6 +167,14 @@ impl Naive {
         match self.verdict(call) {
             Verdict::Drive(text, _) => text,
             _ => vec![],
+        }
+    }
+
+    /// The drive that the profile is asked of: the one handed over, or that of the call's table.
+    fn profiled(&mut self, call: &Call) -> Vec<u8> {
+        match call {
+            Call::BuildProfile { text, .. } => text.clone(),
+            _ => self.drive(call),
         }
     }
 
@@ -209,6 +220,8 @@ fn checks(call: &Call) -> impl Iterator<Item = (u32, bool)> {
         Call::Locate { .. } => (&[2, 3, 10, 4, 5, 6], &[7, 9]),
         Call::Cuts { .. } => (&[2, 3, 9], &[]),
         Call::ToSteps { .. } | Call::FromSteps { .. } => (&[1, 9], &[]),
+        Call::BuildProfile { .. } => (&[1, 11, 12, 4], &[9]),
+        Call::CheckProfile { .. } => (&[4, 5, 6], &[7, 11, 12]),
     };
     leave.iter().map(|&number| (number, false)).chain(clear.iter().map(|&number| (number, true)))
 }
@@ -236,7 +249,7 @@ fn as_words(numbers: &[usize]) -> Vec<u32> {
 
 fn text(call: &Call) -> &[u8] {
     match call {
-        Call::Build { text, .. } | Call::ToSteps { text } | Call::FromSteps { text } => text,
+        Call::Build { text, .. } | Call::BuildProfile { text, .. } | Call::ToSteps { text } | Call::FromSteps { text } => text,
         _ => &[],
     }
 }
@@ -250,8 +263,8 @@ fn pattern(call: &Call) -> &[u8] {
 
 fn table(call: &Call) -> &[u32] {
     match call {
-        Call::Build { .. } | Call::Cuts { .. } | Call::ToSteps { .. } | Call::FromSteps { .. } => &[],
-        Call::Check { table } | Call::Read { table } | Call::Extract { table, .. } => table,
+        Call::Build { .. } | Call::BuildProfile { .. } | Call::Cuts { .. } | Call::ToSteps { .. } | Call::FromSteps { .. } => &[],
+        Call::Check { table } | Call::CheckProfile { table } | Call::Read { table } | Call::Extract { table, .. } => table,
         Call::Count { table, .. } | Call::Locate { table, .. } | Call::LyndonLength { table, .. } => table,
         Call::LyndonArray { table } | Call::ToSigned { table } => table,
     }

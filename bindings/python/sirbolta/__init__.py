@@ -17,9 +17,14 @@ first sample is never a step. Cuts and tests are those of the m - 1 steps, taken
     >>> table.locate(bytes([0, 2]), steps=True)
     [0, 1, 3]
 
-A table is a `Table`, which `build` and `to_signed` answer, or any buffer with a table's words: single bytes, four a word and the lowest first, or unsigned
-words of 32 bits. It is read where it stands; only where its words are not aligned to four bytes, or stand apart, it is copied. A sequence of whole numbers
-is taken too, and made into words at each call. Nothing may write to a buffer while a call reads it: the answer may then be wrong, or the process crash.
+A profile drive is that of a switch joystick: byte 0 is rest, 1 to 8 are the headings. It is not empty, begins and ends at rest, and has no byte above 8, read
+as an unsigned number. A profile table is the table of such a drive, and every function takes it. `build_profile` and `check_profile` refuse all other drives
+and tables.
+
+A table is a `Table`, which `build`, `build_profile` and `to_signed` answer, or any buffer with a table's words: single bytes, four a word and the lowest
+first, or unsigned words of 32 bits. It is read where it stands; only where its words are not aligned to four bytes, or stand apart, it is copied. A sequence
+of whole numbers is taken too, and made into words at each call. Nothing may write to a buffer while a call reads it: the answer may then be wrong, or the
+process crash.
 
 A former table is one that was built while samples were compared as unsigned numbers. `to_signed` takes former tables and no others; every other function
 raises NotATable for them, unless all samples of the text are below 128 or none is: the two orders then give the same table.
@@ -48,8 +53,8 @@ from typing import TYPE_CHECKING, Any, NoReturn, SupportsIndex, Union
 from ._native import INTERFACE, WORK as _WORK, Reply as _Reply, SearchReply as _SearchReply
 from ._native import enough_stack as _enough_stack, library as _library, work as _work
 from .refusals import (
-    BadWord, NoStep, NotATable, PatternEmpty, PatternTooLong, RangePastEnd, Refusal, ResultTooShort, TableLength, TextTooLong, WorkTooShort,
-    refusal as _refusal,
+    BadWord, NoStep, NotATable, NotAtRest, OffHeading, PatternEmpty, PatternTooLong, RangePastEnd, Refusal, ResultTooShort, TableLength, TextTooLong,
+    WorkTooShort, refusal as _refusal,
 )
 
 if TYPE_CHECKING:
@@ -59,9 +64,9 @@ else:
 
 __all__ = [
     "INTERFACE", "Table", "build", "check", "read", "extract", "count", "count_with_tests", "count_each", "locate", "locate_with_tests", "live_cuts",
-    "lyndon_length", "lyndon_array", "to_signed", "to_steps", "from_steps",
+    "lyndon_length", "lyndon_array", "to_signed", "to_steps", "from_steps", "build_profile", "check_profile",
     "Refusal", "TextTooLong", "PatternEmpty", "PatternTooLong", "WorkTooShort", "TableLength", "BadWord", "NotATable", "RangePastEnd", "ResultTooShort",
-    "NoStep",
+    "NoStep", "OffHeading", "NotAtRest",
 ]
 
 Samples = Buffer
@@ -81,8 +86,8 @@ _LARGEST = 2**64 - 1  # of a start, a length or a position; no text reaches as f
 class Table:
     """A table: its words as bytes, four a word and the lowest first, which do not change.
 
-    It is made by `build` or `to_signed`, or from the words of a table; whether they are one, the services say, not this class. It is equal to a table of the same
-    words, may be a key or a member of a set, is pickled, and goes as a BLOB into a database of `sqlite3`, from where its bytes come back.
+    It is made by `build`, `build_profile` or `to_signed`, or from the words of a table; whether they are one, the services say, not this class. It is equal to a
+    table of the same words, may be a key or a member of a set, is pickled, and goes as a BLOB into a database of `sqlite3`, from where its bytes come back.
 
     >>> table = build(b"abab", chair=40)
     >>> Table(bytes(table)) == table
@@ -145,6 +150,10 @@ class Table:
         """The table of the text and the chair number of this former table: `sirbolta.to_signed`."""
         return to_signed(self)
 
+    def check_profile(self) -> int:
+        """How many rules it has, if it is a profile table: `sirbolta.check_profile`."""
+        return check_profile(self)
+
     def __bytes__(self) -> bytes:
         return self._bytes
 
@@ -179,10 +188,7 @@ def build(text: Samples, chair: int) -> Table:
     >>> build(b"abab", chair=40)
     <sirbolta.Table of 12 words>
     """
-    samples = _samples(text)
-    result = _TableWords()
-    reply = _library.sirbolta_build(samples, len(samples), _number(chair, "the chair number", 16), _work(), _WORK, result, _TABLE)
-    return Table(ctypes.string_at(result, 4 * _counted(reply)))
+    return _built(_library.sirbolta_build, text, chair)
 
 
 def check(table: Words) -> int:
@@ -368,6 +374,37 @@ def from_steps(steps: Samples) -> bytes:
     """
     samples, result = _samples(steps), _Bytes()
     return ctypes.string_at(result, _counted(_library.sirbolta_from_steps(samples, len(samples), result, _SAMPLES)))
+
+
+def build_profile(text: Samples, chair: int) -> Table:
+    """The table of a profile drive and a chair number from 0 to 65,535, as `build` makes it. Refusals: TextTooLong, OffHeading, NotAtRest.
+
+    >>> build_profile(bytes([0, 1, 2, 1, 0]), chair=40).locate(bytes([1]))
+    [1, 3]
+    >>> build_profile(bytes([0, 9, 1]), chair=40)
+    Traceback (most recent call last):
+    sirbolta.refusals.OffHeading: refused 11: byte 1 of the text is above 8, so neither rest nor a heading
+    """
+    return _built(_library.sirbolta_build_profile, text, chair)
+
+
+def check_profile(table: Words) -> int:
+    """How many rules a profile table has. Refusals: those of `check`; OffHeading and NotAtRest where its text is no profile drive.
+
+    >>> check_profile(build(bytes([0, 1, 2, 1, 0]), chair=40))
+    9
+    >>> check_profile(build(bytes([0, 1]), chair=40))
+    Traceback (most recent call last):
+    sirbolta.refusals.NotAtRest: refused 12: the text is empty, or does not begin and end at rest
+    """
+    return _counted(_reply_to(table, _library.sirbolta_check_profile, _work(), _WORK))
+
+
+def _built(service: Any, text: Samples, chair: int) -> Table:
+    """The table that a service builds of a text and a chair number."""
+    samples, result = _samples(text), _TableWords()
+    reply = service(samples, len(samples), _number(chair, "the chair number", 16), _work(), _WORK, result, _TABLE)
+    return Table(ctypes.string_at(result, 4 * _counted(reply)))
 
 
 def _counted(reply: _Reply | _SearchReply) -> int:

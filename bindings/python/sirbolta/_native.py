@@ -45,6 +45,8 @@ FUNCTIONS: dict[str, tuple[type[ctypes.Structure] | None, list[Any]]] = {
     "to_signed": (Reply, SLICE * 3),
     "to_steps": (Reply, SLICE * 2),
     "from_steps": (Reply, SLICE * 2),
+    "build_profile": (Reply, SLICE + [ctypes.c_uint16] + SLICE * 2),
+    "check_profile": (Reply, SLICE * 2),
     "count_each": (None, [ctypes.c_void_p] * 2 + [ctypes.c_size_t, ctypes.c_uint32] + SLICE * 2 + [ctypes.c_void_p]),
 }
 

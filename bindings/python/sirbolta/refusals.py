@@ -4,8 +4,8 @@ from __future__ import annotations
 
 
 class Refusal(Exception):
-    """A service's refusal: its number, its reason, and its place, which is the index of a bad word, the entries needed, otherwise 0; of `count_each` also the
-    index of the table that is refused."""
+    """A service's refusal: its number, its reason, and its place, which is the lowest index of a bad word or of a byte that is off heading, the entries needed,
+    otherwise 0; of `count_each` also the index of the table that is refused."""
 
     number: int = 0
     reason: str = ""
@@ -59,6 +59,14 @@ class ResultTooShort(Refusal):
 
 class NoStep(Refusal):
     number, reason = 10, "the pattern has one sample, so no step by which to search a table that holds steps"
+
+
+class OffHeading(Refusal):
+    number, reason = 11, "byte {place} of the text is above 8, so neither rest nor a heading"
+
+
+class NotAtRest(Refusal):
+    number, reason = 12, "the text is empty, or does not begin and end at rest"
 
 
 def refusal(number: int, place: int, table: int | None = None) -> Refusal:
