@@ -119,11 +119,14 @@ impl Generator {
         other
     }
 
-    /// A profile drive of n samples, or an empty one: rest and headings, the ends at rest.
+    /// A profile drive of n samples: rest and headings, the ends at rest. Of no sample, the empty drive, which is none.
     pub fn profile(&mut self, n: usize) -> Vec<u8> {
         let mut drive: Vec<u8> = self.text(n).iter().map(|sample| sample % 9).collect();
-        for end in [0, n.wrapping_sub(1)] {
-            drive.get_mut(end).into_iter().for_each(|sample| *sample = 0);
+        if let [first, ..] = &mut drive[..] {
+            *first = 0;
+        }
+        if let [.., last] = &mut drive[..] {
+            *last = 0;
         }
         drive
     }
@@ -135,7 +138,9 @@ impl Generator {
             let (place, byte) = (self.below(n), self.next() as u8);
             let i = self.one_of(&[0, 1, n / 2, n.wrapping_sub(2), n.wrapping_sub(1), place]);
             let byte = self.one_of(&[0, 1, 8, 9, 9, 127, 128, 255, byte]);
-            other.get_mut(i).into_iter().for_each(|sample| *sample = byte);
+            if let Some(sample) = other.get_mut(i) {
+                *sample = byte;
+            }
         }
         other
     }
