@@ -1,13 +1,13 @@
 //! One call of a service under callgrind: `bench SIDE SERVICE FAMILY SAMPLES [PATTERN [KIND]]`. SIDE is `library` or `rust`; SERVICE is `build`,
 //! `check`, `read`, `copied` (reading, beside a Rust that copies the text), `extract` (the whole text), `count`, `locate`, `cuts` (the live cuts of
 //! the pattern that a search tries), `lyndon_length` (at the first position), `lyndon_array`, `to_signed` (of the former table), `to_steps`,
-//! `from_steps` (of the text that is rearranged), or `doubling`: the check of a table of SAMPLES rules that double. With `count:steps` and
-//! `locate:steps` the text is rearranged before its table is built, and the pattern searched by its steps; with `count:samples` and
-//! `locate:samples` the pattern's steps are searched in that table, as samples. FAMILY 100 + m is a block of m random bytes, repeated. The pattern
-//! is the PATTERN samples in the middle of the text; with the KIND `nested` so many nested samples; with @i as KIND so many from position i on; and
-//! with a number k so many that are a^k, then b up to the last one, and a. It prints the answer, the number of tests, and a checksum of each lent
-//! slice afterwards, which `bench/run` compares between the sides. The lent slices hold other values before the call. The SERVICE `compared` calls
-//! nothing: it prints how many pairs of samples the Rust side compares to list the pattern's cuts.
+//! `from_steps` (of the text that is rearranged), `build_profile`, `check_profile`, or `doubling`: the check of a table of SAMPLES rules that
+//! double. With `count:steps` and `locate:steps` the text is rearranged before its table is built, and the pattern searched by its steps; with
+//! `count:samples` and `locate:samples` the pattern's steps are searched in that table, as samples. FAMILY 100 + m is a block of m random bytes,
+//! repeated. The pattern is the PATTERN samples in the middle of the text; with the KIND `nested` so many nested samples; with @i as KIND so many
+//! from position i on; and with a number k so many that are a^k, then b up to the last one, and a. It prints the answer, the number of tests, and a
+//! checksum of each lent slice afterwards, which `bench/run` compares between the sides. The lent slices hold other values before the call. The
+//! SERVICE `compared` calls nothing: it prints how many pairs of samples the Rust side compares to list the pattern's cuts.
 
 mod baseline;
 mod compared;
@@ -18,6 +18,7 @@ mod former;
 mod inputs;
 #[path = "../tests/library.rs"]
 mod library;
+mod profile;
 mod search;
 mod steps;
 mod tables;
@@ -72,6 +73,8 @@ fn measured_library(given: &Given, lent: &mut Lent) -> Found {
             "to_signed" => replied(sirbolta_to_signed(table, m, work, w, words, k)),
             "to_steps" => replied(sirbolta_to_steps(text, n, bytes, b)),
             "from_steps" => replied(sirbolta_from_steps(text, n, bytes, b)),
+            "build_profile" => replied(sirbolta_build_profile(text, n, CHAIR, work, w, words, k)),
+            "check_profile" => replied(sirbolta_check_profile(table, m, work, w)),
             service => panic!("no service {service}"),
         }
     }
@@ -104,6 +107,8 @@ fn measured_rust(given: &Given, lent: &mut Lent) -> Found {
         "to_signed" => tables::to_signed(table, work, words).into(),
         "to_steps" => steps::to_steps(text, bytes).into(),
         "from_steps" => steps::from_steps(text, bytes).into(),
+        "build_profile" => profile::build_profile(text, CHAIR, work, words).into(),
+        "check_profile" => profile::check_profile(table, work).into(),
         service => panic!("no service {service}"),
     }
 }

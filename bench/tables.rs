@@ -270,7 +270,7 @@ pub fn check(table: &[u32], work: &mut [u32]) -> Answer {
 }
 
 /// The number of samples of the text that is loaded.
-fn text_length(table: &[u32], work: &[u32]) -> usize {
+pub fn text_length(table: &[u32], work: &[u32]) -> usize {
     at(work, LENGTHS + (table.len() / 2 - 1)) as usize - 1
 }
 
@@ -334,7 +334,7 @@ pub fn extract(table: &[u32], start: usize, count: usize, work: &mut [u32], resu
 }
 
 /// The samples of ranks at the front.
-fn copy(ranks: &[u32], result: &mut [u8]) {
+pub fn copy(ranks: &[u32], result: &mut [u8]) {
     let mut i = 0;
     while i < ranks.len() {
         put(result, i, byte_of(at(ranks, i)));

@@ -1,5 +1,6 @@
 //! Eight families of texts, one that is slow to list the cuts of, drives of a switch joystick, two whose middle has hundreds of live cuts, two with
-//! many tests behind a hit, one whose steps are one of the eight, and repeated blocks of any length.
+//! many tests behind a hit, one whose steps are one of the eight, a joystick at rest, one that goes off heading at the end, and repeated blocks of
+//! any length.
 
 /// A small generator of numbers, the same in every run.
 struct Numbers(u64);
@@ -18,7 +19,7 @@ impl Numbers {
     }
 }
 
-pub const FAMILIES: [&str; 15] = [
+pub const FAMILIES: [&str; 17] = [
     "random bytes",
     "two symbols",
     "rests and ramps",
@@ -34,6 +35,8 @@ pub const FAMILIES: [&str; 15] = [
     "(w z^28)^j",
     "(a^15 b)^j",
     "Fibonacci steps",
+    "all rest",
+    "nine headings, then 9",
 ];
 
 /// A family BLOCKS + m has a block of m random bytes, repeated.
@@ -121,6 +124,13 @@ fn headings(n: usize, numbers: &mut Numbers) -> Vec<u8> {
     s
 }
 
+/// Such a drive, and then a 9: that it is off heading shows at its last sample alone.
+fn headings_then_off(n: usize, numbers: &mut Numbers) -> Vec<u8> {
+    let mut s = headings(n - 1, numbers);
+    s.push(9);
+    s
+}
+
 /// The text of n samples of a family.
 pub fn text(family: usize, n: usize) -> Vec<u8> {
     let mut numbers = Numbers(88172645463325252);
@@ -140,6 +150,8 @@ pub fn text(family: usize, n: usize) -> Vec<u8> {
         12 => repeated(&nested_and_rest(), n),
         13 => repeated(&run(15), n),
         14 => restored(&fibonacci(n)),
+        15 => vec![0; n],
+        16 => headings_then_off(n, &mut numbers),
         _ => repeated(&(BLOCKS..family).map(|_| numbers.sample()).collect::<Vec<u8>>(), n),
     }
 }
