@@ -17,9 +17,23 @@ fn all_on_heading(text: &[u8]) -> bool {
     on
 }
 
+/// How many samples the blocks of sixteen have that stand before the first with a sample above the headings.
+fn blocks_on_heading(text: &[u8]) -> usize {
+    let blocks = text.len() / 16;
+    let mut i = 0;
+    while i < blocks {
+        let a = 16 * i;
+        if !all_on_heading(unsafe { text.get_unchecked(a..a + 16) }) {
+            return a;
+        }
+        i += 1;
+    }
+    16 * blocks
+}
+
 /// The lowest index of a sample above the headings, the text's length if there is none.
 fn first_off(text: &[u8]) -> usize {
-    let mut i = 0;
+    let mut i = blocks_on_heading(text);
     while i < text.len() {
         if LAST_HEADING < at(text, i) {
             return i;
@@ -36,8 +50,9 @@ fn at_rest(text: &[u8]) -> bool {
 
 /// The refusal of a text that is no drive of the profile, if it is none.
 fn profile_refused(text: &[u8]) -> Option<Answer> {
-    if !all_on_heading(text) {
-        return Some(refused(11, first_off(text)));
+    let off = first_off(text);
+    if off < text.len() {
+        return Some(refused(11, off));
     }
     if !at_rest(text) {
         return Some(refused(12, 0));

@@ -11,6 +11,7 @@ ghost use mathlib.Core.Path.{_≡_};
 ghost use mathlib.Core.Bool.{true};
 ghost use mathlib.Core.List.{[], _∷_};
 ghost use lib.ListN.{length};
+ghost use Rattle.definitions.specs.Table.{ruleCount};
 ghost use Rattle.definitions.specs.Services.{Serves, Answers, sampleOrder, profileChecks, checkService, checkProfileService};
 ghost use Rattle.lists.specs.Decisions.{answered};
 ghost use Rattle.state.specs.State.{Ready, rulesLoaded};
@@ -24,7 +25,7 @@ pub fn check(table: &[u32], work: &mut [u32]) -> Answer
         return a;
     };
     clear_front(work);
-    Answer::Done(table.len() / 2)
+    Answer::Done(rule_count(table))
 }
 
 // Checks a table in the nine-heading profile. Refuses by 4 to 7, 11, 12; success answers the number of rules.
@@ -40,7 +41,7 @@ pub fn check_profile(table: &[u32], work: &mut [u32]) -> Answer
     let Answer::Done(_) = p else {
         return p;
     };
-    Answer::Done(table.len() / 2)
+    Answer::Done(rule_count(table))
 }
 
 // Refusals 11 and 12 of the text that is loaded, whose table has so many rules, or the number of samples: the text is written as bytes first.
@@ -52,4 +53,11 @@ fn profile_loaded(rules: usize, work: &[u32]) -> Answer
     let mut text = [0u8; 2047];
     write_part(0, n, work, &mut text);
     profile_fits(&text[0..n])
+}
+
+// How many rules the table that was handed over has.
+fn rule_count(table: &[u32]) -> usize
+    ensures { λ n. ⌜ n ≡ ruleCount (now (table .entry)) ⌝ }
+{
+    table.len() / 2
 }

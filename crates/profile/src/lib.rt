@@ -88,8 +88,5 @@ fn at_rest(text: &[u8]) -> bool
     if n == 0 {
         return false;
     }
-    if text[0] != 0 {
-        return false;
-    }
-    text[n - 1] == 0
+    (text[0] == 0) & (text[n - 1] == 0)
 }

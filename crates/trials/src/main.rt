@@ -2,13 +2,16 @@
 // searched, and what the library lists is compared with what the naive scanner lists, and the tests that it counts with those that the naive
 // side counts; so is the drive's Lyndon array, entry by entry, with what single calls answer and with what the naive side says, the motif's
 // cuts with those that the naive side lists, and what is found by the motif's steps, once the drive is rearranged, with what the naive side finds in the drive
-// as it was. The file `stdout` has what is printed.
+// as it was; and what building in the nine-heading profile says of the drive, and checking of its table, with what the naive side says. The file `stdout` has what
+// is printed.
 use definitions::Answer;
 use definitions::Content;
 use equality::equal;
 use libc::STDIN_FILENO;
 use libc::STDOUT_FILENO;
 use naive::scan;
+use naive_profile::is_profile;
+use naive_profile::lowest_off;
 use naive_words::longest_at;
 use slices::wide;
 ghost use Prim.Native.Nat.{_≤_};
@@ -54,6 +57,7 @@ fn try_line(line: &[u8]) {
         store(&line[0..e], &line[from..]);
         cut(&line[from..]);
         follow(&line[0..e], &line[from..]);
+        judge(&line[0..e]);
     }
     print(b"\n");
 }
@@ -73,6 +77,7 @@ fn store<'a>(drive: &'a [u8], motif: &'a [u8]) {
         print_number(b" rules ", n / 2);
         search(&table[0..n], drive, motif);
         measure(&table[0..n], drive);
+        judge_table(&table[0..n], drive);
     }
 }
 
@@ -213,6 +218,47 @@ fn search_steps<'a>(table: &'a [u32], drive: &'a [u8], motif: &'a [u8])
             }
         }
     }
+}
+
+// Builds a drive in the nine-heading profile. A drive of this program has at most 63 samples.
+fn judge(drive: &[u8]) {
+    if 63 < drive.len() {
+        return;
+    }
+    let mut work = [7u32; 16384];
+    let mut table = [7u32; 254];
+    print_judged(index::build_profile(drive, 0, &mut work, &mut table), drive);
+}
+
+// Checks the table of a drive in that profile.
+fn judge_table<'a>(table: &'a [u32], drive: &'a [u8]) {
+    let mut work = [7u32; 16384];
+    print_judged(index::check_profile(table, &mut work), drive);
+}
+
+// Prints what building or checking answers in the profile, and whether the naive side says the same of the drive.
+fn print_judged(a: Answer, drive: &[u8]) {
+    match a {
+        Answer::Refused(number, place) => {
+            print_number(b" refused ", wide(number));
+            print_number(b" at ", place);
+            if place == off_place(drive) && !is_profile(drive) {
+                print(b" by both");
+            }
+        }
+        Answer::Done(_) => {
+            print(b" profile");
+            if is_profile(drive) {
+                print(b" by both");
+            }
+        }
+    }
+}
+
+// The place of the refusal of a drive that is not in the profile, as the naive side says: its lowest index off heading, or 0.
+fn off_place(drive: &[u8]) -> usize {
+    let n = lowest_off(drive);
+    if n < drive.len() { n } else { 0 }
 }
 
 // Prints bytes and the first n entries of a list.

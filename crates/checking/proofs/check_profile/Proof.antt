@@ -1,11 +1,12 @@
 -- `check_profile` is refused where the table is not opened; else it is decided by judging the text that is loaded, and the work slice is cleared.
 use mathlib.Core.Path.{refl, _∙_, ap}
 use mathlib.Core.Bool.{true}
+use Prim.Native.Nat.{ℕ}
 use native.Mathlib.Omega.{arith}
 use lib.ListN.{length}
 use borrow.Author.Needs.{needs}
 use Rattle.definitions.specs.Table.{textOf}
-use Rattle.definitions.specs.Services.{outcomeOf, sampleOrder, tableChecks, profileChecks, checkProfileService}
+use Rattle.definitions.specs.Services.{done, outcomeOf, sampleOrder, tableChecks, profileChecks, checkProfileService}
 use Rattle.lists.specs.Decisions.{refused-some, done-all}
 use Rattle.lists.specs.Serving.{answer-refuses, refused-by, served, passed, worked}
 use Rattle.opening.proofs.Services.{ready, opened-cleared, opening-refused, opening-done}
@@ -51,18 +52,19 @@ returns-2 c =
 returns-3 : tie.Need-returns-3
 unfolding checkProfileService tableChecks profileChecks outcomeOf ready
 returns-3 c =
-    let z = c .before .before .before .before in
+    let told = c .before in
+    let z = told .before .before .before .before in
     let q = z .before .before in
     let k = q .before .before .before .before in
     let m = k .before .before .before .before in
     let a = m .before .before .before .before .args in
     let (p, x, e) = opening-done (m .admit .ensures) (k .a .given .1) in
     let text = textOf sampleOrder (a .table .now) in
-    let all = done-all (profileChecks true text) (length text) (q .profile-loaded .ensures (ready x) refl e) (c .enum-told2 .given .1) .0 in
-    passed p (worked (a .work .now) (z .clear-front .last .0) (refl, (refl, refl)) (z .clear-front .ensures ∙ opened-cleared x) (served all refl refl))
+    let all = done-all (profileChecks true text) (length text) (q .profile-loaded .ensures (ready x) refl e) (told .enum-told2 .given .1) .0 in
+    passed p (worked (a .work .now) (z .clear-front .last .0) (refl, (refl, refl)) (z .clear-front .ensures ∙ opened-cleared x) (served all (ap (λ (n : ℕ). done n 0) (c .rule-count .ensures)) refl))
 
 pub check-profile-spec : {M : Type 1} → statement M
 check-profile-spec =
     tie.close
     (tie.spec (λ c κs. search needs) (λ c. search needs) (λ c. search needs) (λ c. search needs) returns (λ c. search needs) (λ c. search needs) part-profile-loaded-end
-    profile-loaded-requires clear-front-requires (λ c. search needs) (λ c. search needs) (λ c. search needs) returns-2 (λ c. search needs) returns-3)
+    profile-loaded-requires clear-front-requires (λ c. search needs) (λ c. search needs) (λ c. search needs) returns-2 (λ c κs. search needs) (λ c. search needs) returns-3)
