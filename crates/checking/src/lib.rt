@@ -32,9 +32,9 @@ pub fn check(table: &[u32], work: &mut [u32]) -> Answer
 pub fn check_profile(table: &[u32], work: &mut [u32]) -> Answer
     ensures { λ r. ⌜ Serves (checkProfileService sampleOrder (now (table .entry)) (now (work .entry))) (Answers r) (now (work .exit) ∷ []) ⌝ }
 {
-    let a = admit(SAMPLE_ORDER, table, work);
-    let Answer::Done(rules) = a else {
-        return a;
+    let opened = admit(SAMPLE_ORDER, table, work);
+    let Answer::Done(rules) = opened else {
+        return opened;
     };
     let p = profile_loaded(rules, &work[0..WORK]);
     clear_front(work);

@@ -22,19 +22,19 @@ returns c =
 part-profile-loaded-end : tie.Need-part-profile-loaded-end
 part-profile-loaded-end c =
     let k = c .before .before in
-    omega (arith, opening-done (k .before .before .before .before .admit .ensures) (k .a .given .1) .1 .long)
+    omega (arith, opening-done (k .before .before .before .before .admit .ensures) (k .opened .given .1) .1 .long)
 
 profile-loaded-requires : tie.Need-profile-loaded-requires
 unfolding ready
 profile-loaded-requires c κs =
     let k = c .before .before .before in
-    let (p, x, e) = opening-done (k .before .before .before .before .admit .ensures) (k .a .given .1) in
+    let (p, x, e) = opening-done (k .before .before .before .before .admit .ensures) (k .opened .given .1) in
     (ready x, refl, e)
 
 clear-front-requires : tie.Need-clear-front-requires
 clear-front-requires c κs =
     let k = c .before .before .before .before .before in
-    opening-done (k .before .before .before .before .admit .ensures) (k .a .given .1) .1 .long
+    opening-done (k .before .before .before .before .admit .ensures) (k .opened .given .1) .1 .long
 
 returns-2 : tie.Need-returns-2
 unfolding checkProfileService tableChecks profileChecks outcomeOf ready
@@ -44,7 +44,7 @@ returns-2 c =
     let k = q .before .before .before .before in
     let m = k .before .before .before .before in
     let a = m .before .before .before .before .args in
-    let (p, x, e) = opening-done (m .admit .ensures) (k .a .given .1) in
+    let (p, x, e) = opening-done (m .admit .ensures) (k .opened .given .1) in
     let text = textOf sampleOrder (a .table .now) in
     let (d, first, g) = refused-some (profileChecks true text) (length text) (q .profile-loaded .ensures (ready x) refl e) (c .enum-told3 .given .1) in
     passed p (worked (a .work .now) (z .clear-front .last .0) (refl, (refl, refl)) (z .clear-front .ensures ∙ opened-cleared x) (refused-by d first (ap outcomeOf g) refl))
@@ -58,7 +58,7 @@ returns-3 c =
     let k = q .before .before .before .before in
     let m = k .before .before .before .before in
     let a = m .before .before .before .before .args in
-    let (p, x, e) = opening-done (m .admit .ensures) (k .a .given .1) in
+    let (p, x, e) = opening-done (m .admit .ensures) (k .opened .given .1) in
     let text = textOf sampleOrder (a .table .now) in
     let all = done-all (profileChecks true text) (length text) (q .profile-loaded .ensures (ready x) refl e) (told .enum-told2 .given .1) .0 in
     passed p (worked (a .work .now) (z .clear-front .last .0) (refl, (refl, refl)) (z .clear-front .ensures ∙ opened-cleared x) (served all (ap (λ (n : ℕ). done n 0) (c .rule-count .ensures)) refl))
