@@ -8,7 +8,7 @@ use lib.Dec.{ltb, eqb}
 use Rattle.definitions.specs.declared.Order.{Order}
 use Rattle.definitions.specs.Table.{tableOf, ruleCount}
 use Rattle.definitions.specs.Occurrences.{occurrences}
-use Rattle.definitions.specs.Services.{Check, check, firstMet, textTooLong, patternChecks, profileChecks}
+use Rattle.definitions.specs.Services.{Check, check, firstMet, textTooLong, patternChecks, driveChecks}
 
 -- ---- numbers and lines
 
@@ -122,4 +122,4 @@ headingName b = getD headingNames b []
 
 -- all of the input is the drive; the name of each of its samples is printed
 unfoldable pub deskOutput : List ℕ → List ℕ
-deskOutput drive = printed (textTooLong drive ∷ profileChecks false drive) (linesOf headingName drive)
+deskOutput drive = printed (driveChecks drive) (linesOf headingName drive)

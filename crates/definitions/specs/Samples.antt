@@ -19,7 +19,7 @@ use Rattle.definitions.specs.Table.{rankOf, byteOf, numberOfRank, rankOf
 use Rattle.definitions.specs.Occurrences.{occurrences, notGreaterAtDifference, isLive, liveCuts, wordAgain, isListed, listedCuts, patternCuts, straddles, straddling, cutIn, cutAt, fitsJoin, isTested, Test, testsOf, testsBelow, tests}
 use Rattle.definitions.specs.Steps.{step, stepsOf, toSteps, samplesFrom, fromSteps, stepFinds, searched, finds}
 use Rattle.definitions.specs.Profile.{onHeading, firstOff, atRest, isProfile}
-use Rattle.definitions.specs.Services.{Outcome, done, refused, readOutcome, searchOf, Service, firstMet, outcome, outcomeOf, cleared, slicesAfter, sampleOrder, formerOrder, tableChecks, patternChecks, searchChecks, profileChecks, buildService, checkService, buildProfileService, checkProfileService, readService, extractService, countService, locateService, cutsService, lyndonLengthService, lyndonArrayService, convertOrderService, toStepsService, fromStepsService}
+use Rattle.definitions.specs.Services.{Outcome, done, refused, readOutcome, searchOf, Service, firstMet, outcome, outcomeOf, cleared, slicesAfter, sampleOrder, formerOrder, tableChecks, patternChecks, searchChecks, profileChecks, driveChecks, buildService, checkService, buildProfileService, checkProfileService, readService, extractService, countService, locateService, cutsService, lyndonLengthService, lyndonArrayService, convertOrderService, toStepsService, fromStepsService}
 use Rattle.definitions.specs.Replies.{replyOf, searchReplyOf, contentOf}
 use Rattle.definitions.specs.Programs.{digits, digitsUpTo, digitCount, decimal, line, named, linesOf, refusedLine, printed, motifOf, driveOf, foundLines, motifOutput, headingName, deskOutput}
 
@@ -480,5 +480,5 @@ samples =
 
 -- every sample holds
 pub samples-hold : all samples ≡ true
-unfolding edges holds all samples parts readOutcome searchOf replyOf searchReplyOf every below least placed same begins lexlt firstDifference lyndon cutOf greatest lyndonLength lyndonArray leftOf rightOf word split lyndonTree indexOf meet visit order ruleOf rulesOf rankOf byteOf numberOfRank rankOfNumber marked wordOf kindOf numberOf ruleWords words tableOf badFirst badSecond badWord stringOf strings ruleString isPair leftHalf rightHalf spelled textOf chairOf isDrive isChair isTable occurrences notGreaterAtDifference isLive liveCuts wordAgain isListed listedCuts patternCuts straddles straddling cutIn cutAt fitsJoin isTested testsOf testsBelow tests step stepsOf toSteps samplesFrom fromSteps stepFinds searched finds onHeading firstOff atRest isProfile flat firstMet outcome outcomeOf cleared slicesAfter last tableChecks patternChecks searchChecks profileChecks buildService checkService buildProfileService checkProfileService readService extractService countService locateService cutsService lyndonLengthService lyndonArrayService convertOrderService toStepsService fromStepsService contentOf digits digitsUpTo digitCount decimal line named linesOf refusedLine printed motifOf driveOf foundLines motifOutput headingName deskOutput
+unfolding edges holds all samples parts readOutcome searchOf replyOf searchReplyOf every below least placed same begins lexlt firstDifference lyndon cutOf greatest lyndonLength lyndonArray leftOf rightOf word split lyndonTree indexOf meet visit order ruleOf rulesOf rankOf byteOf numberOfRank rankOfNumber marked wordOf kindOf numberOf ruleWords words tableOf badFirst badSecond badWord stringOf strings ruleString isPair leftHalf rightHalf spelled textOf chairOf isDrive isChair isTable occurrences notGreaterAtDifference isLive liveCuts wordAgain isListed listedCuts patternCuts straddles straddling cutIn cutAt fitsJoin isTested testsOf testsBelow tests step stepsOf toSteps samplesFrom fromSteps stepFinds searched finds onHeading firstOff atRest isProfile flat firstMet outcome outcomeOf cleared slicesAfter last tableChecks patternChecks searchChecks profileChecks driveChecks buildService checkService buildProfileService checkProfileService readService extractService countService locateService cutsService lyndonLengthService lyndonArrayService convertOrderService toStepsService fromStepsService contentOf digits digitsUpTo digitCount decimal line named linesOf refusedLine printed motifOf driveOf foundLines motifOutput headingName deskOutput
 samples-hold = refl

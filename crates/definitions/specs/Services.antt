@@ -176,6 +176,10 @@ searchChecks Steps p = patternChecks p ++ (noStep p ∷ [])
 unfoldable pub profileChecks : Bool → List ℕ → List Check
 profileChecks clears text = offHeading clears text ∷ notAtRest clears text ∷ []
 
+-- the same of a drive that is handed over
+unfoldable pub driveChecks : List ℕ → List Check
+driveChecks text = textTooLong text ∷ profileChecks false text
+
 -- what a service that answers alone gives; one that writes a list gives the number of its entries, and the number beside it
 abbrev pub gives : List Check → Outcome → Service
 gives checks success = record { checks = checks; success = success; lent = [] }
@@ -199,7 +203,7 @@ checkService o t work = working work (gives (tableChecks o t (length work)) (don
 -- build and check in the nine-heading profile: before a work slice is judged the profile's checks leave it, behind the table's they clear it
 unfoldable pub buildProfileService : Order → List ℕ → ℕ → List ℕ → List ℕ → Service
 buildProfileService o text chair work result =
-    working work (writes (textTooLong text ∷ profileChecks false text ++ (workTooShort (length work) ∷ [])) (tableOf o text chair) 0 result)
+    working work (writes (driveChecks text ++ (workTooShort (length work) ∷ [])) (tableOf o text chair) 0 result)
 
 unfoldable pub checkProfileService : Order → List ℕ → List ℕ → Service
 checkProfileService o t work = working work (gives (tableChecks o t (length work) ++ profileChecks true (textOf o t)) (done (ruleCount t) 0))

@@ -3,7 +3,7 @@ use mathlib.Core.Path.{_≡_, refl, ap}
 use mathlib.Core.List.{List, [], _∷_}
 use Prim.Native.Nat.{ℕ, _*_, _≤_}
 use native.Mathlib.Omega.{arith}
-use lib.ListN.{length, take, length-append, length-take, List·getD-eq-default as past-end}
+use lib.ListN.{length, length-append, List·getD-eq-default as past-end}
 use lib.Dec.{leb}
 use borrow.Author.Tests.{leb-true}
 use Rattle.definitions.specs.Words.{every}
@@ -25,6 +25,3 @@ name-most b =
 
 pub names-most : (l : List ℕ) → length (linesOf headingName l) ≤ 14 * length l
 names-most l = lines-most headingName 14 name-most l
-
-pub front-names-most : (l : List ℕ) (i : ℕ) → length (linesOf headingName (take i l)) ≤ 14 * i
-front-names-most l i = omega (arith, names-most (take i l), length-take i l)

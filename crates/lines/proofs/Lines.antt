@@ -4,7 +4,7 @@ use mathlib.Core.List.{List, [], _∷_, _++_, append-assoc, append-nil}
 use Prim.Native.Nat.{ℕ, _+_, _-_, _*_, _≤_, _<_}
 use native.Mathlib.Omega.{arith}
 use native.Mathlib.Numerals.{add-one}
-use native.Mathlib.Nat.{mul-suc, add-le-add}
+use native.Mathlib.Nat.{mul-suc, add-le-add, mul-le-mul-left, le-trans}
 use lib.ListN.{length, take, drop, getD, length-append, length-take}
 use lib.Seq.{take-suc}
 use Rattle.definitions.specs.Words.{placed}
@@ -25,6 +25,11 @@ lines-most f k h [] = omega arith
 lines-most f k h (n ∷ l) =
     let more = add-le-add (lines-most f k h l) (h n) in
     omega (arith, length-append (line (f n)) (linesOf f l), mul-suc k (length l))
+
+pub front-most : (f : ℕ → List ℕ) (k : ℕ) → ((n : ℕ) → length (line (f n)) ≤ k) → (l : List ℕ) (i : ℕ) → length (linesOf f (take i l)) ≤ k * i
+front-most f k h l i =
+    let few : length (take i l) ≤ i = omega (arith, length-take i l) in
+    le-trans (lines-most f k h (take i l)) (mul-le-mul-left k few)
 
 -- ---- lines, one more a turn
 
@@ -83,6 +88,3 @@ module _ (f : ℕ → List ℕ) where
 
 pub decimals-most : (l : List ℕ) → length (linesOf decimal l) ≤ 11 * length l
 decimals-most l = lines-most decimal 11 line-most l
-
-pub front-most : (l : List ℕ) (i : ℕ) → length (linesOf decimal (take i l)) ≤ 11 * i
-front-most l i = omega (arith, decimals-most (take i l), length-take i l)

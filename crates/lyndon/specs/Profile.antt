@@ -1,7 +1,7 @@
 -- The nine-heading profile, of the services' definitions alone: its checks are passed exactly by profile drives (`passed-profile`, `profile-passed`). On a profile drive building in
 -- the profile is building (`profile-built`), so where it is done it serves `build` (`built-profile`); checking in the profile accepts the table of every profile drive
 -- (`profile-checked`) and nothing else (`checked-profile`).
-use mathlib.Core.Path.{_≡_, refl, sym, _∙_, ap, ap₂, subst}
+use mathlib.Core.Path.{_≡_, refl, _∙_, ap, ap₂, subst}
 use mathlib.Core.Bool.{Bool, true, false, cond}
 use mathlib.Core.Logic.{⊎-elim}
 use mathlib.Core.List.{List, [], _∷_, _++_}
@@ -12,7 +12,7 @@ use Rattle.definitions.specs.declared.Order.{Order}
 use Rattle.definitions.specs.Words.{every}
 use Rattle.definitions.specs.Profile.{onHeading, firstOff, atRest, isProfile}
 use Rattle.definitions.specs.Table.{tableOf, textOf, ruleCount}
-use Rattle.definitions.specs.Services.{Outcome, done, refused, Check, firstMet, outcome, slicesAfter, Serves, textTooLong, workTooShort, tableLength, hasBadWord, notATable, resultTooShort, offHeading, notAtRest, tableChecks, profileChecks, buildService, buildProfileService, checkProfileService}
+use Rattle.definitions.specs.Services.{Outcome, done, refused, Check, firstMet, outcome, slicesAfter, Serves, textTooLong, workTooShort, tableLength, hasBadWord, notATable, resultTooShort, offHeading, notAtRest, tableChecks, profileChecks, driveChecks, buildService, buildProfileService, checkProfileService}
 use Rattle.lists.specs.Bools.{either, contra, and-left, and-right, and-intro}
 use Rattle.lists.specs.Numbers.{every-least}
 use Rattle.lists.specs.Decisions.{Passed, none, more, passed-all, passed-front, both-passed, passed-parts}
@@ -44,18 +44,18 @@ module _ (o : Order) (text : List ℕ) (chair : ℕ) (work result : List ℕ) wh
 
   -- the checks of a profile drive decide as those of building do
   same-first {ℓ} : {A : Type ℓ} (f : Check → A) (s : A) → isProfile text ≡ true
-      → firstMet (textTooLong text ∷ profileChecks false text ++ behind) f s ≡ firstMet (textTooLong text ∷ behind) f s
-  unfolding firstMet
+      → firstMet (driveChecks text ++ behind) f s ≡ firstMet (textTooLong text ∷ behind) f s
+  unfolding firstMet driveChecks
   same-first f s h = ap (λ a. cond (textTooLong text .met) (f (textTooLong text)) a) (passed-front behind f s (profile-passed false text h))
 
   pub profile-built : isProfile text ≡ true
       → (outcome (buildProfileService o text chair work result) ≡ outcome (buildService o text chair work result))
       × (slicesAfter (buildProfileService o text chair work result) ≡ slicesAfter (buildService o text chair work result))
-  unfolding outcome slicesAfter buildProfileService buildService profileChecks
+  unfolding outcome slicesAfter buildProfileService buildService driveChecks profileChecks
   profile-built h = (same-first _ _ h, ap₂ {C = List (List ℕ)} (λ u v. u ∷ v ∷ []) (same-first _ _ h) (same-first _ _ h))
 
   passed-text : Passed (buildProfileService o text chair work result .checks) → isProfile text ≡ true
-  unfolding buildProfileService profileChecks
+  unfolding buildProfileService driveChecks profileChecks
   passed-text (more _ _ p) = passed-profile false text (passed-parts (profileChecks false text) p .0)
 
   -- a call that serves and is done: the drive is a profile drive, and the call serves `build` too

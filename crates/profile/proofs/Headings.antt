@@ -71,6 +71,6 @@ module _ (x : List ℕ) where
     unfolding profileChecks firstMet
     rest-refused h = rw (le-ltb (firstOff x) (length x) e, h)
 
-    pub profile-passed : atRest x ≡ true → Done (length x) ≡ answered (profileChecks false x) (length x)
+    pub profile-fits : atRest x ≡ true → Done (length x) ≡ answered (profileChecks false x) (length x)
     unfolding profileChecks firstMet
-    profile-passed h = rw (le-ltb (firstOff x) (length x) e, h)
+    profile-fits h = rw (le-ltb (firstOff x) (length x) e, h)

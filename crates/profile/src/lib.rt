@@ -3,17 +3,16 @@ use checks::text_fits;
 use definitions::Answer;
 ghost use mathlib.Core.Path.{_≡_};
 ghost use mathlib.Core.Bool.{true, false};
-ghost use mathlib.Core.List.{_∷_};
 ghost use Prim.Native.Nat.{_≤_};
 ghost use lib.ListN.{length};
 ghost use Rattle.definitions.specs.Words.{every};
 ghost use Rattle.definitions.specs.Profile.{onHeading, firstOff, atRest};
-ghost use Rattle.definitions.specs.Services.{textTooLong, profileChecks};
+ghost use Rattle.definitions.specs.Services.{profileChecks, driveChecks};
 ghost use Rattle.lists.specs.Decisions.{answered};
 
 // Refusals 1, 11 and 12 of a drive, or the number of samples.
 pub fn drive_fits(text: &[u8]) -> Answer
-    ensures { λ r. ⌜ r ≡ answered (textTooLong (now (text .entry)) ∷ profileChecks false (now (text .entry))) (length (now (text .entry))) ⌝ }
+    ensures { λ r. ⌜ r ≡ answered (driveChecks (now (text .entry))) (length (now (text .entry))) ⌝ }
 {
     let t = text_fits(text);
     let Answer::Done(_) = t else {
@@ -50,7 +49,7 @@ fn first_off(text: &[u8]) -> usize
     i
 }
 
-// How many bytes the blocks of sixteen have that stand before the first with a byte off heading.
+// So many bytes at the front are on heading; how many, by blocks of sixteen, is a matter of speed.
 fn blocks_on_heading(text: &[u8]) -> usize
     ensures { λ n. ⌜ (n ≤ length (now (text .entry))) × (every (onHeading (now (text .entry))) n ≡ true) ⌝ }
 {

@@ -3,6 +3,8 @@
 use libc::STDERR_FILENO;
 use libc::STDIN_FILENO;
 use libc::STDOUT_FILENO;
+ghost use mathlib.Core.Path.{_≡_};
+ghost use mathlib.Core.Bool.{cond};
 ghost use Prim.Native.Nat.{_+_, _≤_, _<_};
 ghost use lib.ListN.{length};
 
@@ -15,19 +17,22 @@ pub fn read_input(input: &mut [u8]) -> usize
         let got = libc::read(STDIN_FILENO, &mut input[n..]);
         let more = io::count(got, &input[n..]);
         if more == 0 {
-            return ended(got, n, input.len());
+            return ended(got < 0, n, input.len());
         }
         n += more;
     }
     n
 }
 
-// How many bytes were read into a slice of `size`, n of them before a read that gave none; one more than the slice has where that failed.
-fn ended(got: isize, n: usize, size: usize) -> usize
+// How many bytes were read into a slice of `size`: n before a read that gave none, and one more than the slice has where that failed.
+fn ended(failed: bool, n: usize, size: usize) -> usize
     requires { ⌜ (n ≤ size) × (size < 18446744073709551615) ⌝ }
-    ensures { λ r. ⌜ r ≤ size + 1 ⌝ }
+    ensures { λ r. ⌜ (r ≡ cond failed (size + 1) n) × (r ≤ size + 1) ⌝ }
 {
-    if got < 0 { size + 1 } else { n }
+    if failed {
+        return size + 1;
+    }
+    n
 }
 
 // Writes all of the output, and where that fails says so by these bytes.

@@ -242,7 +242,7 @@ fn print_judged(a: Answer, drive: &[u8]) {
         Answer::Refused(number, place) => {
             print_number(b" refused ", wide(number));
             print_number(b" at ", place);
-            if place == off_place(drive) && !is_profile(drive) {
+            if is_refusal(number, place, drive) {
                 print(b" by both");
             }
         }
@@ -255,10 +255,13 @@ fn print_judged(a: Answer, drive: &[u8]) {
     }
 }
 
-// The place of the refusal of a drive that is not in the profile, as the naive side says: its lowest index off heading, or 0.
-fn off_place(drive: &[u8]) -> usize {
-    let n = lowest_off(drive);
-    if n < drive.len() { n } else { 0 }
+// Whether the naive side refuses the drive by this number, at this place.
+fn is_refusal(number: u32, place: usize, drive: &[u8]) -> bool {
+    let off = lowest_off(drive);
+    if off < drive.len() {
+        return number == 11 && place == off;
+    }
+    number == 12 && place == 0 && !is_profile(drive)
 }
 
 // Prints bytes and the first n entries of a list.

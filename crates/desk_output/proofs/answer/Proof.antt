@@ -1,7 +1,6 @@
 -- `answer` prints the refusal of the drive, or the names of its headings.
 use mathlib.Core.Path.{_≡_, _∙_, ap}
-use mathlib.Core.Bool.{false}
-use mathlib.Core.List.{List, _∷_}
+use mathlib.Core.List.{List}
 use Prim.Native.Nat.{ℕ, _≤_}
 use native.Mathlib.Omega.{arith}
 use lib.ListN.{length}
@@ -10,16 +9,13 @@ use borrow.Author.Tests.{ltb-false}
 use Rattle.definitions.specs.declared.Answer.{Answer}
 use Rattle.definitions.specs.declared.Answer.the-variants.{Done, Refused}
 use Rattle.definitions.specs.Words.{placed}
-use Rattle.definitions.specs.Services.{Check, textTooLong, profileChecks}
+use Rattle.definitions.specs.Services.{driveChecks}
 use Rattle.definitions.specs.Programs.{linesOf, headingName, deskOutput}
 use Rattle.lists.specs.Decisions.{Passed, more, answered, done-all}
 use Rattle.lines.specs.Lines.{refusal}
 use Rattle.lines.proofs.Deciding.{checks-refused, checks-passed}
 use Rattle.desk_output.proofs.answer.Statement.{statement}
 use Rattle.desk_output.proofs.answer.Tie as tie
-
-abbrev driveChecks : List ℕ → List Check
-driveChecks x = textTooLong x ∷ profileChecks false x
 
 module _ (x : List ℕ) {r : Answer} (e : r ≡ answered (driveChecks x) (length x)) where
   refused : {a b : ℕ} → r ≡ Refused a b → refusal r ≡ deskOutput x
@@ -31,6 +27,7 @@ module _ (x : List ℕ) {r : Answer} (e : r ≡ answered (driveChecks x) (length
   named q = checks-passed (driveChecks x) (length x) e (linesOf headingName x) q
 
   short : {k : ℕ} → r ≡ Done k → length x ≤ 2047
+  unfolding driveChecks
   short q = go (done-all (driveChecks x) (length x) e q .0)
     where
       go : Passed (driveChecks x) → length x ≤ 2047

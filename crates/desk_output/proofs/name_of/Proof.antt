@@ -1,5 +1,5 @@
 -- `name_of` goes by the number: rest, a direction, and else no name.
-use mathlib.Core.Path.{_≡_, sym, ap}
+use mathlib.Core.Path.{sym, ap}
 use native.Mathlib.Omega.{arith}
 use borrow.Author.Needs.{needs}
 use Rattle.definitions.specs.Programs.{headingName}

@@ -7,8 +7,8 @@ use lib.ListN.{length, take, getD, length-take, length-drop}
 use lib.Seq.{take-length}
 use Rattle.definitions.specs.Words.{placed}
 use Rattle.definitions.specs.Programs.{linesOf, headingName}
-use Rattle.lines.proofs.Lines.{lines-none, lines-stored}
-use Rattle.desk_output.proofs.Names.{name-most, front-names-most}
+use Rattle.lines.proofs.Lines.{front-most, lines-none, lines-stored}
+use Rattle.desk_output.proofs.Names.{name-most}
 use Rattle.desk_output.proofs.put_headings.Statement.{statement}
 use Rattle.desk_output.proofs.put_headings.Tie as tie
 
@@ -29,19 +29,19 @@ sub-put-heading : tie.Need-sub-put-heading Inv-loop μ-loop
 sub-put-heading c =
     let at = c .before .before in
     let a = at .before .before .before .args in
-    omega (arith, front-names-most (a .headings .now) (at .loop .i), at .loop .inv .2)
+    omega (arith, front-most headingName 14 name-most (a .headings .now) (at .loop .i), at .loop .inv .2)
 
 part-put-heading-start : tie.Need-part-put-heading-start Inv-loop μ-loop
 part-put-heading-start c =
     let at = c .before .before in
     let a = at .before .before .before .args in
-    omega (arith, front-names-most (a .headings .now) (at .loop .i), at .loop .inv .2)
+    omega (arith, front-most headingName 14 name-most (a .headings .now) (at .loop .i), at .loop .inv .2)
 
 put-heading-requires : tie.Need-put-heading-requires Inv-loop μ-loop
 put-heading-requires c κs =
     let at = c .before .before .before in
     let s = at .before .before .before in
-    simp (length-take, length-drop) (omega (arith, front-names-most (s .args .headings .now) (at .loop .i), at .loop .inv .2))
+    simp (length-take, length-drop) (omega (arith, front-most headingName 14 name-most (s .args .headings .now) (at .loop .i), at .loop .inv .2))
 
 add-n : tie.Need-add-n Inv-loop μ-loop
 add-n c =
@@ -49,7 +49,7 @@ add-n c =
     let at = l .before .before .before .before in
     let s = at .before .before .before in
     let l₀ = s .args .headings .now in
-    omega (arith, front-names-most l₀ (at .loop .i), at .loop .inv .2, l .put-heading .ensures .0, name-most (getD l₀ (at .loop .i) 0))
+    omega (arith, front-most headingName 14 name-most l₀ (at .loop .i), at .loop .inv .2, l .put-heading .ensures .0, name-most (getD l₀ (at .loop .i) 0))
 
 loop-again : tie.Need-loop-again Inv-loop μ-loop
 loop-again c =
@@ -59,7 +59,7 @@ loop-again c =
     let headings = s .args .headings .now in
     let i = at .loop .i in
     let x = getD headings i 0 in
-    let more = lines-stored headingName headings (s .args .out .now) (at .loop .out) (l .put-heading .last .1 .0) i (at .loop .n) (l .put-heading .result) x (omega arith) (omega (arith, s .pre, front-names-most headings i, name-most x)) refl (at .loop .inv .2) (at .loop .inv .3) (l .put-heading .ensures .0) (l .put-heading .ensures .1) in
+    let more = lines-stored headingName headings (s .args .out .now) (at .loop .out) (l .put-heading .last .1 .0) i (at .loop .n) (l .put-heading .result) x (omega arith) (omega (arith, s .pre, front-most headingName 14 name-most headings i, name-most x)) refl (at .loop .inv .2) (at .loop .inv .3) (l .put-heading .ensures .0) (l .put-heading .ensures .1) in
     (omega arith, more .0, more .1, more .2)
 
 same-length : tie.Need-same-length Inv-loop μ-loop

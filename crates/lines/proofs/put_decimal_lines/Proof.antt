@@ -29,33 +29,33 @@ sub-put-decimal-line : tie.Need-sub-put-decimal-line Inv-loop μ-loop
 sub-put-decimal-line c =
     let at = c .before .before .before in
     let a = at .before .before .before .args in
-    omega (arith, front-most (a .numbers .now) (at .loop .i), at .loop .inv .2)
+    omega (arith, front-most decimal 11 line-most (a .numbers .now) (at .loop .i), at .loop .inv .2)
 
 part-put-decimal-line-start : tie.Need-part-put-decimal-line-start Inv-loop μ-loop
 part-put-decimal-line-start c =
     let at = c .before .before .before in
     let a = at .before .before .before .args in
-    omega (arith, front-most (a .numbers .now) (at .loop .i), at .loop .inv .2)
+    omega (arith, front-most decimal 11 line-most (a .numbers .now) (at .loop .i), at .loop .inv .2)
 
 put-decimal-line-requires : tie.Need-put-decimal-line-requires Inv-loop μ-loop
 put-decimal-line-requires c κs =
     let at = c .before .before .before .before in
     let s = at .before .before .before in
-    simp (length-take, length-drop) (omega (arith, front-most (s .args .numbers .now) (at .loop .i), at .loop .inv .2))
+    simp (length-take, length-drop) (omega (arith, front-most decimal 11 line-most (s .args .numbers .now) (at .loop .i), at .loop .inv .2))
 
 add-n : tie.Need-add-n Inv-loop μ-loop
 add-n c =
     let l = c .before .before in
     let at = l .before .before .before .before .before in
     let s = at .before .before .before in
-    omega (arith, front-most (s .args .numbers .now) (at .loop .i), at .loop .inv .2, l .put-decimal-line .ensures .0, line-most (l .before .before .wide .result))
+    omega (arith, front-most decimal 11 line-most (s .args .numbers .now) (at .loop .i), at .loop .inv .2, l .put-decimal-line .ensures .0, line-most (l .before .before .wide .result))
 
 loop-again : tie.Need-loop-again Inv-loop μ-loop
 loop-again c =
     let l = c .before .before in
     let at = l .before .before .before .before .before in
     let s = at .before .before .before in
-    let more = lines-stored decimal (s .args .numbers .now) (s .args .out .now) (at .loop .out) (l .put-decimal-line .last .1 .0) (at .loop .i) (at .loop .n) (l .put-decimal-line .result) (l .before .before .wide .result) (omega arith) (omega (arith, s .pre, front-most (s .args .numbers .now) (at .loop .i), line-most (l .before .before .wide .result))) (l .before .before .wide .ensures) (at .loop .inv .2) (at .loop .inv .3) (l .put-decimal-line .ensures .0) (l .put-decimal-line .ensures .1) in
+    let more = lines-stored decimal (s .args .numbers .now) (s .args .out .now) (at .loop .out) (l .put-decimal-line .last .1 .0) (at .loop .i) (at .loop .n) (l .put-decimal-line .result) (l .before .before .wide .result) (omega arith) (omega (arith, s .pre, front-most decimal 11 line-most (s .args .numbers .now) (at .loop .i), line-most (l .before .before .wide .result))) (l .before .before .wide .ensures) (at .loop .inv .2) (at .loop .inv .3) (l .put-decimal-line .ensures .0) (l .put-decimal-line .ensures .1) in
     (omega arith, more .0, more .1, more .2)
 
 same-length : tie.Need-same-length Inv-loop μ-loop

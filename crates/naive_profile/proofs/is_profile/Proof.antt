@@ -1,5 +1,4 @@
 -- `is_profile` tests one part of its definition after the other.
-use mathlib.Core.Path.{_≡_, sym, _∙_}
 use Prim.Native.Nat.{_-_}
 use native.Mathlib.Omega.{arith}
 use lib.ListN.{length, getD}

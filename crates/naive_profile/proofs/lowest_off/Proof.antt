@@ -1,7 +1,6 @@
 -- `lowest_off` goes down from the last byte. The loop's invariant: the lowest of the bytes passed that is above 8 is known.
-use Prim.Native.Nat.{ℕ, _-_, _≤_}
+use Prim.Native.Nat.{_-_}
 use native.Mathlib.Omega.{arith}
-use lib.ListN.{length}
 use Rattle.lists.specs.Numbers.{split-lt}
 use Rattle.naive_profile.proofs.Lowest.{LowestFrom, lowest-first}
 use Rattle.naive_profile.proofs.lowest_off.Statement.{statement}

@@ -1,6 +1,6 @@
 -- `all_on_heading` looks at every byte. The loop's invariant: what is known is whether the bytes passed are on heading.
 use mathlib.Core.Path.{_≡_, refl, _∙_, ap}
-use Prim.Native.Nat.{ℕ, _-_, _≤_}
+use Prim.Native.Nat.{_-_, _≤_}
 use native.Mathlib.Omega.{arith}
 use lib.ListN.{length}
 use Rattle.definitions.specs.Words.{every}

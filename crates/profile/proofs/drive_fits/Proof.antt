@@ -1,16 +1,13 @@
 -- `drive_fits` is refused by 1, or answers what the checks behind it do.
-use mathlib.Core.Path.{_≡_, sym, _∙_}
-use mathlib.Core.Bool.{false}
-use mathlib.Core.List.{[], _∷_}
 use lib.ListN.{length}
 use borrow.Author.Needs.{needs}
-use Rattle.definitions.specs.Services.{firstMet, textTooLong, profileChecks}
+use Rattle.definitions.specs.Services.{firstMet, textTooLong, driveChecks}
 use Rattle.lists.specs.Decisions.{refused-met, done-met}
 use Rattle.profile.proofs.drive_fits.Statement.{statement}
 use Rattle.profile.proofs.drive_fits.Tie as tie
 
 returns : tie.Need-returns
-unfolding firstMet
+unfolding firstMet driveChecks
 returns c =
     let f = c .before .before in
     let text = f .before .before .args .text .now in
@@ -18,7 +15,7 @@ returns c =
     rw q e
 
 returns-2 : tie.Need-returns-2
-unfolding firstMet
+unfolding firstMet driveChecks
 returns-2 c =
     let k = c .before in
     let f = k .before .before in
