@@ -734,6 +734,15 @@ class Examples(unittest.TestCase):
             exec(code, {"sirbolta": sirbolta})
         self.assertEqual((printed.getvalue(), code.count("\n")), ("found at [0, 1, 3]\n", 5))
 
+    def test_the_readme_builds_in_the_profile(self):
+        blocks = [block.split("```", 1)[0] for block in (ROOT / "README.md").read_text().split("```python\n")[1:]]
+        (code,) = [block for block in blocks if "build_profile" in block]
+        printed = io.StringIO()
+        with redirect_stdout(printed):
+            exec(code, {"sirbolta": sirbolta})
+        said = [line.split("# ", 1)[1] for line in code.split("\n") if "print(" in line]
+        self.assertEqual(printed.getvalue().split("\n"), said + [""])
+
 
 if __name__ == "__main__":
     FILES = sys.argv[1:]
