@@ -1,22 +1,27 @@
 // The program `motif`: reads a motif and a drive, and prints how many rules the drive has and where the motif begins in it.
 // What it prints is `answer` of the bytes that are read (crate `motif_output`); `main` reads and writes.
+use libc::STDERR_FILENO;
+use libc::STDOUT_FILENO;
 use motif_output::answer;
-use streams::read_input;
-use streams::say;
-use streams::write_output;
+use standard_input::read_input;
 
 // Reads at most 4,096 bytes: a longer input is refused, and so many show it. A read or a write that fails is said on standard error.
 fn main() {
     let mut input = [0u8; 4096];
     let n = read_input(&mut input);
     if 4096 < n {
-        say(b"motif: standard input was not read to its end\n");
+        io::write_all(
+            STDERR_FILENO,
+            b"motif: standard input was not read to its end\n",
+        );
         return;
     }
     let mut out = [0u8; 24576];
     let m = answer(&input[0..n], &mut out);
-    write_output(
-        &out[0..m],
-        b"motif: the answer was not written to its end\n",
-    );
+    if !io::write_all(STDOUT_FILENO, &out[0..m]) {
+        io::write_all(
+            STDERR_FILENO,
+            b"motif: the answer was not written to its end\n",
+        );
+    }
 }

@@ -8,16 +8,12 @@ use definitions::Answer;
 use definitions::Content;
 use equality::equal;
 use libc::STDIN_FILENO;
+use libc::STDOUT_FILENO;
 use naive::scan;
+use naive_profile::is_profile;
+use naive_profile::lowest_off;
 use naive_words::longest_at;
 use slices::wide;
-use trial_lines::at;
-use trial_lines::print;
-use trial_lines::print_list;
-use trial_lines::print_number;
-use trial_profile::judge;
-use trial_profile::judge_table;
-use trial_steps::follow;
 ghost use Prim.Native.Nat.{_≤_};
 ghost use lib.ListN.{length};
 
@@ -184,4 +180,112 @@ fn cut(motif: &[u8]) {
             }
         }
     }
+}
+
+// Rearranges a drive and stores it, then searches by steps. A drive of this program has at most 63 samples.
+fn follow<'a>(drive: &'a [u8], motif: &'a [u8]) {
+    if 63 < drive.len() {
+        return;
+    }
+    let mut steps = [7u8; 63];
+    let mut work = [7u32; 16384];
+    let mut table = [7u32; 254];
+    index::to_steps(drive, &mut steps);
+    let a = index::build(&steps[0..drive.len()], 0, &mut work, &mut table);
+    let Answer::Done(n) = a else {
+        return;
+    };
+    if n <= 254 {
+        search_steps(&table[0..n], drive, motif);
+    }
+}
+
+// Prints what the library finds by the motif's steps, and whether the naive side finds the same in the drive as it was.
+fn search_steps<'a>(table: &'a [u32], drive: &'a [u8], motif: &'a [u8])
+    requires { ⌜ length (now drive) ≤ 63 ⌝ }
+{
+    let mut work = [7u32; 16384];
+    let mut found = [7u32; 64];
+    let mut scanned = [7u32; 64];
+    let s = index::locate(table, Content::Steps, motif, &mut work, &mut found);
+    let a = s.answer;
+    match a {
+        Answer::Refused(number, _) => print_number(b" refused ", wide(number)),
+        Answer::Done(n) => {
+            print_list(b" steps", &found, n);
+            if naive_steps::scan(motif, drive, &mut scanned) == n && equal(&found, &scanned) {
+                print(b" by both");
+            }
+        }
+    }
+}
+
+// Builds a drive in the nine-heading profile. A drive of this program has at most 63 samples.
+fn judge(drive: &[u8]) {
+    if 63 < drive.len() {
+        return;
+    }
+    let mut work = [7u32; 16384];
+    let mut table = [7u32; 254];
+    print_judged(index::build_profile(drive, 0, &mut work, &mut table), drive);
+}
+
+// Checks the table of a drive in that profile.
+fn judge_table<'a>(table: &'a [u32], drive: &'a [u8]) {
+    let mut work = [7u32; 16384];
+    print_judged(index::check_profile(table, &mut work), drive);
+}
+
+// Prints what building or checking answers in the profile, and whether the naive side says the same of the drive.
+fn print_judged(a: Answer, drive: &[u8]) {
+    match a {
+        Answer::Refused(number, place) => {
+            print_number(b" refused ", wide(number));
+            print_number(b" at ", place);
+            if is_refusal(number, place, drive) {
+                print(b" by both");
+            }
+        }
+        Answer::Done(_) => {
+            print(b" profile");
+            if is_profile(drive) {
+                print(b" by both");
+            }
+        }
+    }
+}
+
+// Whether the naive side refuses the drive by this number, at this place.
+fn is_refusal(number: u32, place: usize, drive: &[u8]) -> bool {
+    let off = lowest_off(drive);
+    if off < drive.len() {
+        return number == 11 && place == off;
+    }
+    number == 12 && place == 0 && !is_profile(drive)
+}
+
+// Prints bytes and the first n entries of a list.
+fn print_list(name: &[u8], list: &[u32; 64], n: usize) {
+    print(name);
+    let mut i = 0;
+    while i < n {
+        print_number(b" ", wide(at(list, i)));
+        i += 1;
+    }
+}
+
+// Entry i of a list, where it has one.
+fn at(list: &[u32; 64], i: usize) -> u32 {
+    if i < 64 { list[i] } else { 0 }
+}
+
+// Prints bytes and a number.
+fn print_number(name: &[u8], n: usize) {
+    print(name);
+    io::print_decimal(STDOUT_FILENO, n as u64);
+}
+
+// Prints bytes.
+fn print(s: &[u8]) {
+    io::write_all(STDOUT_FILENO, s);
 }

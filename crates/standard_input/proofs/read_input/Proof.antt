@@ -4,8 +4,8 @@ use Prim.Native.Nat.{_-_, _≤_}
 use native.Mathlib.Omega.{arith}
 use lib.ListN.{length}
 use borrow.Author.Needs.{needs}
-use Rattle.streams.proofs.read_input.Statement.{statement}
-use Rattle.streams.proofs.read_input.Tie as tie
+use Rattle.standard_input.proofs.read_input.Statement.{statement}
+use Rattle.standard_input.proofs.read_input.Tie as tie
 
 abbrev Inv-loop : tie.InvT-loop
 Inv-loop input₀ n₀ input n = (n ≤ length input₀) × (length input ≡ length input₀)

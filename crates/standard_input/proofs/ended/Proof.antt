@@ -1,8 +1,8 @@
 -- `ended` goes by whether the read failed.
 use native.Mathlib.Omega.{arith}
 use borrow.Author.Needs.{needs}
-use Rattle.streams.proofs.ended.Statement.{statement}
-use Rattle.streams.proofs.ended.Tie as tie
+use Rattle.standard_input.proofs.ended.Statement.{statement}
+use Rattle.standard_input.proofs.ended.Tie as tie
 
 returns : tie.Need-returns
 returns c = (rw (c .if1 .taken), omega arith)

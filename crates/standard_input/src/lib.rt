@@ -1,8 +1,5 @@
-// Standard input and output of the programs: the input is read to its end or until the slice is full, the output written at once; what fails is said on
-// standard error.
-use libc::STDERR_FILENO;
+// Standard input, as the programs read it: to its end, or until a slice is full.
 use libc::STDIN_FILENO;
-use libc::STDOUT_FILENO;
 ghost use mathlib.Core.Path.{_≡_};
 ghost use mathlib.Core.Bool.{cond};
 ghost use Prim.Native.Nat.{_+_, _≤_, _<_};
@@ -33,16 +30,4 @@ fn ended(failed: bool, n: usize, size: usize) -> usize
         return size + 1;
     }
     n
-}
-
-// Writes all of the output, and where that fails says so by these bytes.
-pub fn write_output(output: &[u8], failure: &[u8]) {
-    if !io::write_all(STDOUT_FILENO, output) {
-        say(failure);
-    }
-}
-
-// Writes bytes to standard error.
-pub fn say(message: &[u8]) {
-    io::write_all(STDERR_FILENO, message);
 }

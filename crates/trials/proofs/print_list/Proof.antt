@@ -1,8 +1,8 @@
 -- `print_list` ends.
 use Prim.Native.Nat.{_≤_, _-_}
 use native.Mathlib.Omega.{arith}
-use Rattle.trial_lines.proofs.print_list.Statement.{statement}
-use Rattle.trial_lines.proofs.print_list.Tie as tie
+use Rattle.trials.proofs.print_list.Statement.{statement}
+use Rattle.trials.proofs.print_list.Tie as tie
 
 abbrev Inv-loop : tie.InvT-loop
 Inv-loop name list n i₀ t i = 0 ≤ i
