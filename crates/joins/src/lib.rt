@@ -1,6 +1,4 @@
 // Testing a join: whether a pattern straddles two strings that stand one behind the other, a standard factorization, and at which of its listed cuts.
-pub mod areas;
-
 use equality::equal;
 use layout::CUTS;
 use layout::PACK;

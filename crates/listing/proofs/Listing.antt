@@ -22,7 +22,7 @@ use Rattle.rule_finds.specs.Found.{occursIn}
 use Rattle.listing.specs.Listing.{Finds, inDrive, tableFor, foundFor, placedFrom, Listable, Listed}
 use Rattle.rule_finds.proofs.Standing.{PlacedHalves, placed-symbol, pair-stands, rule-stands}
 use Rattle.rule_finds.proofs.Counting.{pair-occurs}
-use Rattle.search.proofs.Starting.{root-occurs}
+use Rattle.search.proofs.Ending.{root-occurs}
 use Rattle.listing.proofs.Drives.{drive-append, drive-behind, drive-cut, drive-marked}
 use Rattle.listing.proofs.Entries.{from-start, from-none, from-both}
 

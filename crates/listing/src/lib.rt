@@ -1,11 +1,11 @@
 // The occurrences of a pattern that are counted, listed by the rules of the table from the root down: in a pair rule those of its left
 // half, the one at its join, those of its right half. A loop goes down the right halves; a left half is a call where it is a pair with
 // occurrences.
+use areas::cut_of;
+use areas::length_of;
+use areas::number_of;
 use decoding::Rule;
 use decoding::rule_in;
-use joins::areas::cut_of;
-use joins::areas::length_of;
-use joins::areas::number_of;
 ghost use mathlib.Core.Path.{_≡_};
 ghost use mathlib.Core.List.{[], _∷_};
 ghost use Prim.Native.Nat.{_+_, _≤_};

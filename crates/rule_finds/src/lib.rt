@@ -3,14 +3,14 @@
 //
 // An occurrence in a pair rule lies in one of its halves or straddles its join, and there at a listed cut. A rule's string stands somewhere in the
 // text, so a cut costs one comparison.
+use areas::is_shorter;
+use areas::length_of;
+use areas::place_of;
 use decoding::Rule;
 use decoding::left_in;
 use decoding::right_in;
 use decoding::rule_in;
 use joins::Tested;
-use joins::areas::is_shorter;
-use joins::areas::length_of;
-use joins::areas::place_of;
 use joins::test_join;
 use layout::FOUND;
 use layout::PACK;

@@ -1,2 +1,2 @@
-pub mod Starting
+pub mod Ending
 pub mod Passing

@@ -1,15 +1,14 @@
 // The occurrences of a pattern in the text that is loaded, counted by the rules of its table, from the first rule up; and the tests, at most n - m + 2
 // for m samples among n. Equal samples cost most.
+use areas::is_shorter;
+use areas::length_of;
+use areas::number_of;
 use definitions::Order;
 use equality::equal_many;
-use joins::areas::is_shorter;
-use joins::areas::length_of;
-use joins::areas::number_of;
 use joins::longest_tail;
-use layout::CUTS;
 use layout::FOUND;
-use layout::NO_CUT;
 use layout::PATTERN;
+use placing::place_pattern;
 use rule_finds::found_in;
 use slices::clear;
 use slices::put;
@@ -20,7 +19,6 @@ ghost use lib.ListN.{length, drop};
 ghost use Rattle.definitions.specs.declared.Order.{Order};
 ghost use Rattle.definitions.specs.Table.{tableOf, ruleCount};
 ghost use Rattle.definitions.specs.Occurrences.{occurrences, tests};
-ghost use Rattle.layout.specs.Layout.{WORK};
 ghost use Rattle.state.specs.State.{Loaded};
 ghost use Rattle.rule_finds.specs.Searching.{Counting, Searched, Starts, Counts};
 
@@ -72,19 +70,6 @@ fn passed_over(work: &[u32], m: usize, from: usize, rules: usize) -> usize
         return 1;
     }
     0
-}
-
-// Places a pattern's ranks in the work slice, and its listed cuts, NO_CUT behind them. Answers how many cuts there are.
-fn place_pattern(order: Order, pattern: &[u8], work: &mut [u32]) -> usize
-    requires { ⌜ (0 < length (now pattern)) × (length (now pattern) ≤ 2047) × (WORK ≤ length (now work)) ⌝ }
-    ensures { λ n. ⌜ ((text : List ℕ) (chair : ℕ) → Loaded order text chair (now (work .entry)) → Counting order (now (pattern .entry)) text chair (length (now (pattern .entry))) n 0 (now (work .exit))) ⌝ }
-{
-    let m = pattern.len();
-    ranks::write(order, pattern, &mut work[PATTERN..PATTERN + m]);
-    let k = cuts::floor_log2(m);
-    let n = cuts::list(order, pattern, &mut work[CUTS..CUTS + k + 1]);
-    put(work, CUTS + n, NO_CUT);
-    n
 }
 
 // Counts the occurrences of the pattern, m samples with n listed cuts, in every rule, from the first up. Answers how many tests that takes.

@@ -9,9 +9,9 @@ use borrow.Fn.PlainCycle.{Measures, is, falls, and}
 use Rattle.decoding.specs.declared.Rule.the-variants.{Pair}
 use Rattle.decoding.specs.Decoding.{ruleIn}
 use Rattle.decoding.proofs.rule_in.Reads as rule-in-reads
-use Rattle.joins.proofs.areas.cut_of.Reads as cut-of-reads
-use Rattle.joins.proofs.areas.length_of.Reads as length-of-reads
-use Rattle.joins.proofs.areas.number_of.Reads as number-of-reads
+use Rattle.areas.proofs.cut_of.Reads as cut-of-reads
+use Rattle.areas.proofs.length_of.Reads as length-of-reads
+use Rattle.areas.proofs.number_of.Reads as number-of-reads
 use Rattle.listing.proofs.Listing.{PairLists, Remains, lists-known, list-none, symbol-fits, list-symbol, list-pair, list-left, all-remains, right-remains, none-remains, cut-fits}
 use Rattle.listing.proofs.list_cut.Reads as list-cut-reads
 use Rattle.listing.proofs.list_one.Reads as list-one-reads

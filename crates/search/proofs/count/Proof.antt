@@ -13,7 +13,8 @@ use Rattle.layout.specs.Layout.{FOUND, lengthIn}
 use Rattle.state.specs.State.{Loaded}
 use Rattle.rule_finds.specs.Searching.{Counting, Counts}
 use Rattle.rule_finds.proofs.Short.{short-text, short-search, short-all}
-use Rattle.search.proofs.Starting.{pattern-here, counted-text, counted-all}
+use Rattle.placing.proofs.Placing.{pattern-here}
+use Rattle.search.proofs.Ending.{counted-text, counted-all}
 use Rattle.search.proofs.count.Statement.{statement}
 use Rattle.search.proofs.count.Tie as tie
 

@@ -1,32 +1,26 @@
--- Where counting starts: the ranks of the pattern and its listed cuts, with NO_CUT behind them, are written into their areas, and nothing else changes (`counting-start`). Where it
--- ends: the root's string is the marked text, so its number is that of the text (`counted-text`).
+-- The ranks of the pattern and its listed cuts, with NO_CUT behind them, are written into their areas, and nothing else changes (`counting-start`).
 use mathlib.Core.Path.{_≡_, refl, sym, _∙_, ap, ap₂, subst}
 use mathlib.Core.List.{List, _++_, map}
-use Prim.Native.Nat.{ℕ, suc, _+_, _-_, _≤_, _<_}
+use Prim.Native.Nat.{ℕ, _+_, _≤_, _<_}
 use native.Mathlib.Omega.{arith}
 use lib.ListN.{length, take, drop, getD, set, length-take, length-drop, length-map}
 use lib.Seq.{getD-set-same}
 use Rattle.definitions.specs.declared.Order.{Order}
 use Rattle.definitions.specs.Words.{placed}
-use Rattle.definitions.specs.Table.{rankOf, tableOf, spelled, ruleCount}
-use Rattle.definitions.specs.Occurrences.{occurrences, patternCuts}
+use Rattle.definitions.specs.Table.{rankOf}
+use Rattle.definitions.specs.Occurrences.{patternCuts}
 use Rattle.lists.specs.Lists.{placed-length}
 use Rattle.lists.specs.Parts.{part, part-agree, part-set-behind, lent-length, lent-before, lent-part}
 use Rattle.lyndon.specs.Joins.{triedCuts}
 use Rattle.lyndon.specs.Ranks.{slice-bytes}
-use Rattle.lyndon.specs.Stored.{table-spelled}
-use Rattle.lyndon.specs.Occurrences.{occurrences-marked}
-use Rattle.layout.specs.Layout.{TABLE, FOUND, PATTERN, CUTS, NO_CUT, WORK, countIn}
+use Rattle.layout.specs.Layout.{TABLE, FOUND, PATTERN, CUTS, NO_CUT, WORK}
 use Rattle.state.specs.State.{Loaded}
-use Rattle.rule_finds.specs.Found.{occursIn}
-use Rattle.rule_finds.specs.Searching.{Pattern, Counting, Searched}
+use Rattle.rule_finds.specs.Searching.{Pattern, Counting}
 use Rattle.rule_finds.proofs.Standing.{Outside, lent-outside, outside-set, placed-outside}
 use Rattle.rule_finds.proofs.Counting.{tried-cuts}
 
 pub pattern-here : (p : List ℕ) → 0 < length p → length p ≤ 2047 → ((i : ℕ) → i < length p → getD p i 0 < 256) → Pattern p
 pattern-here p h k b = record { filled = h; short = k; bytes = slice-bytes p b }
-
--- ---- the start
 
 -- n words from o on are lent, and l is written at their front
 module _ (w l z : List ℕ) (o n : ℕ) (low : FOUND ≤ o) (high : o + n ≤ TABLE) (long : TABLE ≤ length w) (room : length l ≤ n)
@@ -105,23 +99,3 @@ cuts-length w z v y m k long short a e few b =
     let size : length v ≡ length w = ap length e ∙ lent-length w z PATTERN m (omega arith) (a ∙ ranks) in
     let cuts : length (take k (drop CUTS v)) ≡ k = simp (length-take, length-drop) (omega (arith, size)) in
     lent-length v y CUTS k (omega (arith, size)) (b ∙ cuts) ∙ size
-
--- ---- the text
-
-pub root-occurs : (o : Order) (p text : List ℕ) (chair : ℕ) (w : List ℕ) → Loaded o text chair w → Pattern p
-    → occursIn o (tableOf o text chair) (map (rankOf o) p) (ruleCount (tableOf o text chair) - 1) ≡ map suc (occurrences p text)
-unfolding occursIn spelled
-root-occurs o p text chair w h q =
-    ap (occurrences (map (rankOf o) p)) (table-spelled o text chair (h .kept .stored))
-    ∙ occurrences-marked o p text (q .filled) (q .bytes) (h .kept .stored .bytes)
-
-pub counted-text : (o : Order) (p text : List ℕ) (chair rules : ℕ) (w : List ℕ) → 0 < rules → rules ≡ ruleCount (tableOf o text chair)
-    → Searched o p text chair w → countIn w (rules - 1) ≡ length (occurrences p text)
-counted-text o p text chair rules w s e h =
-    h .found (rules - 1) (omega arith) .number
-    ∙ ap (λ (i : ℕ). length (occursIn o (tableOf o text chair) (map (rankOf o) p) (i - 1))) e
-    ∙ ap length (root-occurs o p text chair w (h .loaded) (h .pattern))
-    ∙ length-map (occurrences p text) suc
-
-pub counted-all : (o : Order) (p text : List ℕ) (chair m n rules : ℕ) (w : List ℕ) → rules ≡ ruleCount (tableOf o text chair) → Counting o p text chair m n rules w → Searched o p text chair w
-counted-all o p text chair m n rules w e h = record { loaded = h .loaded; pattern = h .pattern; found = λ r l. h .found r (omega arith) }

@@ -8,9 +8,9 @@ use borrow.Author.Needs.{needs}
 use Rattle.cuts.proofs.Lists.{most-cuts, eleven}
 use Rattle.layout.specs.Layout.{PATTERN, CUTS}
 use Rattle.rule_finds.specs.Searching.{Counting}
-use Rattle.search.proofs.Starting.{pattern-here, counting-start, cuts-length}
-use Rattle.search.proofs.place_pattern.Statement.{statement}
-use Rattle.search.proofs.place_pattern.Tie as tie
+use Rattle.placing.proofs.Placing.{pattern-here, counting-start, cuts-length}
+use Rattle.placing.proofs.place_pattern.Statement.{statement}
+use Rattle.placing.proofs.place_pattern.Tie as tie
 
 -- the list has at most 11 words
 few : (c : tie.After-floor-log2) → c .floor-log2 .result + 1 ≤ 11

@@ -1,4 +1,4 @@
-// What stands in the areas of a search of a rule.
+// What stands of a rule in the areas of a search: its length, a place, its number of occurrences, and the cut at its join.
 use layout::FOUND;
 use layout::LENGTHS;
 use layout::PACK;
