@@ -64,7 +64,7 @@ unfoldable pub cutIn : List ℕ → List ℕ → ℕ → Bool
 cutIn [] u i = false
 cutIn (c ∷ cuts) u i = eqb (i + c) (length u) || cutIn cuts u i
 
--- the occurrences that are cut at the join at one of the cuts listed
+-- the occurrences that are cut at the join at one of these cuts
 unfoldable pub cutAt : List ℕ → List ℕ → List ℕ → List ℕ → List ℕ
 cutAt p cuts u v = below (λ i. begins p (drop i (u ++ v)) && cutIn cuts u i) (suc (length (u ++ v)))
 
@@ -83,7 +83,7 @@ pub record Test : Type 0 where
   pub rule : ℕ
   pub cut : ℕ
 
--- the tests of rule r at some of the cuts
+-- the tests of rule r at those of these cuts that fit
 unfoldable pub testsOf : Order → List ℕ → ℕ → List ℕ → ℕ → List Test
 testsOf o t m [] r = []
 testsOf o t m (c ∷ cuts) r = cond (isTested o t m r c) (record { rule = r; cut = c } ∷ []) [] ++ testsOf o t m cuts r

@@ -240,6 +240,7 @@ samples =
     ∷ joins (a ∷ a ∷ b ∷ b ∷ []) 5 (a ∷ a ∷ b ∷ []) (0 ∷ [])
     ∷ joins (a ∷ b ∷ b ∷ b ∷ []) 5 (b ∷ b ∷ b ∷ []) (1 ∷ [])
     ∷ joins (a ∷ b ∷ b ∷ b ∷ []) 5 (b ∷ []) []
+    ∷ joins abab 5 (a ∷ b ∷ []) []
     ∷ tries abab (b ∷ a ∷ []) (3 ∷ 1 ∷ 4 ∷ 1 ∷ 5 ∷ 1 ∷ [])
     ∷ tries abab (b ∷ a ∷ b ∷ []) (4 ∷ 1 ∷ 5 ∷ 1 ∷ [])
     ∷ tries abab (a ∷ []) []
@@ -340,6 +341,8 @@ samples =
     ∷ ends (readService sampleOrder ofAbab room (replicate 4 7)) 0 0 4 40
     ∷ ends (readService sampleOrder ofAbab room (replicate 3 7)) 9 4 0 0
     ∷ ends (readService sampleOrder twoRules room (replicate 4 7)) 7 0 0 0
+    ∷ ends (checkService sampleOrder (0x20000062 ∷ 0xC0000000 ∷ []) room) 6 0 0 0
+    ∷ ends (checkService sampleOrder (ofAbab ++ 0x00000000 ∷ 0xC0000000 ∷ []) room) 7 0 0 0
     ∷ ends (extractService sampleOrder twoRules 0 1 room (replicate 1 7)) 7 0 0 0
     ∷ ends (extractService sampleOrder ofAbab 2 5 room (replicate 1 7)) 8 0 0 0
     ∷ ends (extractService sampleOrder ofAbab 4 0 room []) 0 0 0 0
@@ -369,6 +372,7 @@ samples =
     ∷ ends (cutsService sampleOrder [] []) 2 0 0 0
     ∷ ends (locateService sampleOrder (tableOf sampleOrder (a ∷ a ∷ a ∷ a ∷ []) 0) Samples (a ∷ a ∷ []) room (replicate 2 7)) 9 3 0 0
     ∷ ends (cutsService sampleOrder (a ∷ a ∷ b ∷ a ∷ []) (replicate 1 7)) 9 2 0 0
+    ∷ ends (cutsService sampleOrder (a ∷ a ∷ b ∷ a ∷ []) (replicate 2 7)) 0 0 2 0
     ∷ ends (cutsService sampleOrder (a ∷ a ∷ a ∷ a ∷ []) (replicate 1 7)) 9 2 0 0
     ∷ ends (lyndonLengthService sampleOrder ofAbab 2 room) 0 0 2 0
     ∷ ends (lyndonLengthService sampleOrder ofAbab 3 room) 0 0 1 0
@@ -383,6 +387,7 @@ samples =
     ∷ ends (checkService sampleOrder ofRisingBefore room) 7 0 0 0
     ∷ ends (checkService formerOrder ofRisingBefore room) 0 0 5 0
     ∷ ends (readService sampleOrder ofRising room (replicate 2 7)) 0 0 2 40
+    ∷ ends (lyndonLengthService sampleOrder ofRising 0 room) 0 0 2 0
     ∷ ends (convertOrderService formerOrder sampleOrder ofRisingBefore room (replicate 10 7)) 0 0 10 0
     ∷ ends (convertOrderService formerOrder sampleOrder ofRisingBefore room (replicate 9 7)) 9 10 0 0
     ∷ ends (convertOrderService formerOrder sampleOrder ofRising room []) 7 0 0 0
@@ -393,6 +398,9 @@ samples =
     ∷ leaves (convertOrderService formerOrder sampleOrder ofAbab room (replicate 12 7)) ofAbab
     ∷ leaves (convertOrderService formerOrder sampleOrder ofRising room (replicate 10 7)) (replicate 10 7)
     ∷ leaves (lyndonArrayService sampleOrder ofAbab room (replicate 5 7)) (2 ∷ 1 ∷ 2 ∷ 1 ∷ 7 ∷ [])
+    ∷ leaves (lyndonArrayService sampleOrder ofRising room (replicate 3 7)) (2 ∷ 1 ∷ 7 ∷ [])
+    ∷ leaves (buildService sampleOrder rising 40 room (replicate 11 7)) (ofRising ++ 7 ∷ [])
+    ∷ leaves (readService sampleOrder ofRising room (replicate 3 7)) (rising ++ 7 ∷ [])
     ∷ leaves (extractService sampleOrder ofAbab 1 2 room (replicate 3 7)) (b ∷ a ∷ 7 ∷ [])
     ∷ leaves (locateService sampleOrder ofAbab Samples (a ∷ b ∷ []) room (replicate 1 7)) (7 ∷ [])
     ∷ leaves (locateService sampleOrder ofAbab Samples (a ∷ b ∷ []) room (replicate 3 7)) (0 ∷ 2 ∷ 7 ∷ [])
@@ -401,6 +409,7 @@ samples =
     ∷ leaves (toStepsService moved (replicate 6 7)) (5 ∷ 2 ∷ 2 ∷ 250 ∷ 2 ∷ 7 ∷ [])
     ∷ leaves (fromStepsService (5 ∷ 2 ∷ 2 ∷ 250 ∷ 2 ∷ []) (replicate 6 7)) (moved ++ 7 ∷ [])
     ∷ leaves (cutsService sampleOrder (a ∷ a ∷ b ∷ a ∷ []) (replicate 3 7)) (1 ∷ 3 ∷ 7 ∷ [])
+    ∷ leaves (cutsService sampleOrder (0 ∷ 255 ∷ 1 ∷ []) (replicate 2 7)) (1 ∷ 7 ∷ [])
     ∷ leaves (cutsService sampleOrder (a ∷ a ∷ a ∷ a ∷ []) (replicate 3 7)) (1 ∷ 3 ∷ 7 ∷ [])
     ∷ clearing (room ++ 7 ∷ []) (0 ∷ 0 ∷ 7 ∷ [])
     ∷ clears (checkService sampleOrder ofAbab room) true
@@ -453,6 +462,7 @@ samples =
     ∷ prints (replicate 2048 a) (refusedWith 3)
     ∷ prints (a ∷ []) (foundIn 1 0 [])
     ∷ prints (a ∷ 10 ∷ 10 ∷ []) (foundIn 3 0 [])
+    ∷ prints (9 ∷ 10 ∷ 9 ∷ []) (foundIn 3 1 (48 ∷ 10 ∷ []))
     ∷ prints (replicate 4096 a) (refusedWith 1)
     ∷ prints (replicate 4095 a) (refusedWith 3)
     ∷ reports (0 ∷ 1 ∷ 2 ∷ 3 ∷ 4 ∷ 5 ∷ 6 ∷ 7 ∷ 8 ∷ 0 ∷ []) (114 ∷ 101 ∷ 115 ∷ 116 ∷ 10 ∷ 102 ∷ 111 ∷ 114 ∷ 119 ∷ 97 ∷ 114 ∷ 100 ∷ 10 ∷ 102 ∷ 111 ∷ 114 ∷ 119 ∷ 97 ∷ 114 ∷ 100 ∷ 45 ∷ 114 ∷ 105 ∷ 103 ∷ 104 ∷ 116 ∷ 10 ∷ 114 ∷ 105 ∷ 103 ∷ 104 ∷ 116 ∷ 10 ∷ 98 ∷ 97 ∷ 99 ∷ 107 ∷ 45 ∷ 114 ∷ 105 ∷ 103 ∷ 104 ∷ 116 ∷ 10 ∷ 98 ∷ 97 ∷ 99 ∷ 107 ∷ 10 ∷ 98 ∷ 97 ∷ 99 ∷ 107 ∷ 45 ∷ 108 ∷ 101 ∷ 102 ∷ 116 ∷ 10 ∷ 108 ∷ 101 ∷ 102 ∷ 116 ∷ 10 ∷ 102 ∷ 111 ∷ 114 ∷ 119 ∷ 97 ∷ 114 ∷ 100 ∷ 45 ∷ 108 ∷ 101 ∷ 102 ∷ 116 ∷ 10 ∷ 114 ∷ 101 ∷ 115 ∷ 116 ∷ 10 ∷ [])

@@ -122,7 +122,7 @@ patternTooLong p = check (ltb 2047 (length p)) 3 0 false
 abbrev pub noStep : List ℕ → Check
 noStep p = check (eqb (length p) 1) 10 0 false
 
--- of a drive in the nine-heading profile; whether the work slice is cleared differs by service
+-- of a drive that is to be in the nine-heading profile; whether the work slice is cleared differs by service
 abbrev pub offHeading : Bool → List ℕ → Check
 offHeading clears text = let i = firstOff text in check (ltb i (length text)) 11 i clears
 
@@ -176,7 +176,7 @@ searchChecks Steps p = patternChecks p ++ (noStep p ∷ [])
 unfoldable pub profileChecks : Bool → List ℕ → List Check
 profileChecks clears text = offHeading clears text ∷ notAtRest clears text ∷ []
 
--- the same of a drive that is handed over
+-- of such a drive that is handed over: 1 first
 unfoldable pub driveChecks : List ℕ → List Check
 driveChecks text = textTooLong text ∷ profileChecks false text
 

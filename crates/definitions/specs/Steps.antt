@@ -11,7 +11,7 @@ use Rattle.definitions.specs.Occurrences.{occurrences}
 unfoldable pub step : ℕ → ℕ → ℕ
 step a b = (b + (256 - a)) % 256
 
--- the steps of a string of samples, from each to the next: one fewer than there are samples
+-- the steps of a string of samples, from each to the next: one fewer than there are samples, none of none
 unfoldable pub stepsOf : List ℕ → List ℕ
 stepsOf [] = []
 stepsOf (a ∷ []) = []
@@ -39,7 +39,7 @@ fromSteps (a ∷ steps) = a ∷ samplesFrom a steps
 unfoldable pub stepFinds : List ℕ → List ℕ → List ℕ
 stepFinds p x = below (λ i. begins (stepsOf p) (stepsOf (drop i x))) (length x)
 
--- the pattern that is searched for in a table, by what it holds, and the finds in the text that the table spells
+-- the pattern that is searched for in a table, by what it holds; and the finds, in the text that the table spells, or, where it holds steps, in the drive restored from it
 unfoldable pub searched : Content → List ℕ → List ℕ
 searched Samples p = p
 searched Steps p = stepsOf p

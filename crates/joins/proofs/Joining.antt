@@ -10,13 +10,14 @@ use lib.ListN.{length, take, drop, getD, length-append}
 use lib.Dec.{leb, ltb}
 use borrow.Author.Tests.{lt-ltb, le-leb, lt-leb, leb-true, eq-eqb, ne-eqb}
 use Rattle.definitions.specs.Words.{same, begins}
-use Rattle.definitions.specs.Occurrences.{straddling, straddles, cutAt}
+use Rattle.definitions.specs.Occurrences.{listedCuts, straddling, straddles, cutAt}
 use Rattle.lists.specs.Bools.{contra, and-left, and-right, and-intro}
 use Rattle.lists.specs.Numbers.{split-le, split-lt, below-in}
 use Rattle.lists.specs.Members.{in-at, at-in, rising-at, in-none}
 use Rattle.lists.specs.Parts.{part, part-at, part-length, part-append, part-cons, part-none, part-part}
 use Rattle.lists.specs.Strings.{same-eq, eq-same}
-use Rattle.lyndon.specs.Joins.{triedCuts, tried-suffice, tried-rising, straddling-cut, straddling-most, cut-at}
+use Rattle.lyndon.specs.Listed.{listed-rising}
+use Rattle.lyndon.specs.Joins.{listed-suffice, straddling-cut, straddling-most, cut-at}
 use Rattle.lyndon.specs.Occurrences.{begins-at, at-begins}
 use Rattle.lyndon.specs.Tests.{fitting, fitting-append, fitting-absent, fitting-one, front-unfit, tail-unfit, both-fit}
 use Rattle.layout.specs.Layout.{PATTERN, CUTS, PACK, WORK}
@@ -54,21 +55,21 @@ module _ (w : List ℕ) (m n : ℕ) (t : Tried m n w) (long : WORK ≤ length w)
   pattern-size = part-length PATTERN m w (omega (arith, t .short))
 
   -- cut number i
-  entry : (i : ℕ) → i < n → getD w (CUTS + i) 0 ≡ getD (triedCuts (part PATTERN m w)) i 0
+  entry : (i : ℕ) → i < n → getD w (CUTS + i) 0 ≡ getD (listedCuts (part PATTERN m w)) i 0
   entry i h = sym (part-at CUTS n w i 0 h) ∙ ap (λ (l : List ℕ). getD l i 0) (t .cuts)
 
-  count : length (triedCuts (part PATTERN m w)) ≡ n
+  count : length (listedCuts (part PATTERN m w)) ≡ n
   count = ap length (sym (t .cuts)) ∙ part-length CUTS n w (omega (arith, t .few))
 
   pub cut-range : (i : ℕ) → i < n → (0 < getD w (CUTS + i) 0) × (getD w (CUTS + i) 0 < m)
   cut-range i h =
       let P = part PATTERN m w in
-      let (a, b) = tried-suffice P .cut (getD (triedCuts P) i 0) (at-in (triedCuts P) i (omega (arith, count))) in
+      let (a, b) = listed-suffice P .cut (getD (listedCuts P) i 0) (at-in (listedCuts P) i (omega (arith, count))) in
       (omega (arith, entry i h), omega (arith, entry i h, pattern-size))
 
   cut-rises : (i j : ℕ) → i ≤ j → j < n → getD w (CUTS + i) 0 ≤ getD w (CUTS + j) 0
   cut-rises i j h k = split-lt i j
-      (λ x. omega (arith, entry i (omega arith), entry j k, rising-at (triedCuts (part PATTERN m w)) (tried-rising (part PATTERN m w)) i j x (omega (arith, count))))
+      (λ x. omega (arith, entry i (omega arith), entry j k, rising-at (listedCuts (part PATTERN m w)) (listed-rising (part PATTERN m w)) i j x (omega (arith, count))))
       (λ x. subst (λ (d : ℕ). getD w (CUTS + i) 0 ≤ getD w (CUTS + d) 0) x (omega arith))
       (λ x. absurd (omega arith))
 
@@ -180,12 +181,12 @@ module _ (w : List ℕ) (m n at left right : ℕ) (t : Tried m n w) (fits : at +
 
   -- so at none that is tried and whose front fits
   abbrev NoneFits : Type 0
-  NoneFits = (d : ℕ) → In d (triedCuts (part PATTERN m w)) → d ≤ left → tested w m at left right d ≡ false
+  NoneFits = (d : ℕ) → In d (listedCuts (part PATTERN m w)) → d ≤ left → tested w m at left right d ≡ false
 
   -- once the next one's front is too long
   missed-rest : (i : ℕ) → left < getD w (CUTS + i) 0 → Missed w m at left right i → NoneFits
   missed-rest i l h d k f =
-      let (j, a, e) = in-at d (triedCuts P) k in
+      let (j, a, e) = in-at d (listedCuts P) k in
       let b : j < n = omega (arith, count w m n t long) in
       let q : getD w (CUTS + j) 0 ≡ d = entry w m n t long j b ∙ e in
       split-le i j (λ x. absurd (omega (arith, cut-rises w m n t long i j x b))) (λ x. subst (λ (c : ℕ). tested w m at left right c ≡ false) q (h j x))
@@ -218,12 +219,12 @@ module _ (w : List ℕ) (m n at left right : ℕ) (t : Tried m n w) (fits : at +
       record {
         small = omega (arith, size, t .filled);
         inside = omega arith;
-        place = λ d. straddling-cut P (triedCuts P) u v (tried-suffice P) d ∙ in-none (cutAt P (triedCuts P) u v) none ∙ sym (cut-place-none (length u) 0 refl);
+        place = λ d. straddling-cut P (listedCuts P) u v (listed-suffice P) d ∙ in-none (cutAt P (listedCuts P) u v) none ∙ sym (cut-place-none (length u) 0 refl);
       }
     where
-      none : (i : ℕ) → In i (cutAt (part PATTERN m w) (triedCuts (part PATTERN m w)) (part at left w) (part (at + left) right w)) → ⊥
+      none : (i : ℕ) → In i (cutAt (part PATTERN m w) (listedCuts (part PATTERN m w)) (part at left w) (part (at + left) right w)) → ⊥
       none i k =
-          let (d, a, e, b) = cut-at P (triedCuts P) u v i k in
+          let (d, a, e, b) = cut-at P (listedCuts P) u v i k in
           let (l, q) = begins-at P (u ++ v) i (omega (arith, whole-size, left-size)) b in
           contra
           (and-intro (leb (m - d) right) (same (part (at + left - d) m w) P)
@@ -233,7 +234,7 @@ module _ (w : List ℕ) (m n at left right : ℕ) (t : Tried m n w) (fits : at +
 
   -- a pattern of one symbol has no cut
   pub join-one : m < 2 → JoinCut (part PATTERN m w) (part at left w) (part (at + left) right w) 0
-  join-one h = join-miss (λ d k l. absurd (omega (arith, size, tried-suffice P .cut d k)))
+  join-one h = join-miss (λ d k l. absurd (omega (arith, size, listed-suffice P .cut d k)))
 
 -- ---- what is found, cut after cut
 

@@ -6,10 +6,9 @@ use mathlib.Core.List.{List, [], _∷_}
 use Prim.Native.Nat.{ℕ, zero, suc, _+_, _-_, _/_, _%_, _≤_, _<_, min}
 use lib.ListN.{length, getD}
 use lib.Dec.{eqb}
-use Rattle.definitions.specs.Occurrences.{straddling}
+use Rattle.definitions.specs.Occurrences.{listedCuts, straddling}
 use Rattle.lists.specs.Parts.{part}
 use Rattle.lyndon.specs.Factorization.{Std}
-use Rattle.lyndon.specs.Joins.{triedCuts}
 use Rattle.layout.specs.Layout.{PATTERN, CUTS, NO_CUT, PACK}
 
 -- the pattern has m symbols, and the n cuts that are tried are its own; NO_CUT stands behind them
@@ -17,7 +16,7 @@ pub record Tried (m n : ℕ) (w : List ℕ) : Type 0 where
   pub filled : 0 < m
   pub short : m ≤ 2047
   pub few : n ≤ 11
-  pub cuts : part CUTS n w ≡ triedCuts (part PATTERN m w)
+  pub cuts : part CUTS n w ≡ listedCuts (part PATTERN m w)
   pub end : getD w (CUTS + n) 0 ≡ NO_CUT
 
 -- where a join stands at `join`, the cut c of m symbols has room on both sides of it

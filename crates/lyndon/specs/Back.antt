@@ -1,16 +1,19 @@
 -- What building writes, checking accepts (`built-checked`) and reading gives back, drive and chair number (`built-read`); checking accepts
--- nothing else (`checked-built`). All of the services' definitions alone.
-use mathlib.Core.Path.{_≡_, refl, sym, subst}
+-- nothing else (`checked-built`). All of the services' definitions alone. In every call of building that serves, this holds of what it wrote (`build-returned`).
+use mathlib.Core.Path.{_≡_, refl, sym, _∙_, ap, ap₂, subst}
 use mathlib.Core.List.{List, [], _∷_, _++_, append-nil}
-use Prim.Native.Nat.{ℕ, _≤_}
-use lib.ListN.{length}
-use borrow.Author.Tests.{le-ltb}
+use Prim.Native.Nat.{ℕ, _≤_, _<_}
+use lib.ListN.{length, take, getD}
+use borrow.Author.Tests.{le-ltb, ltb-false}
 use Rattle.definitions.specs.declared.Order.{Order}
+use Rattle.definitions.specs.declared.Answer.{Answer}
 use Rattle.definitions.specs.Words.{placed}
 use Rattle.definitions.specs.Table.{tableOf, ruleCount}
-use Rattle.definitions.specs.Services.{done, Check, firstMet, cleared, outcome, slicesAfter, tableChecks, checkService, readService}
+use Rattle.definitions.specs.Services.{done, outcomeOf, Check, firstMet, cleared, outcome, slicesAfter, Serves, Answers, textTooLong, tableChecks, buildService, checkService, readService}
+use Rattle.lists.specs.Lists.{placed-front}
 use Rattle.lists.specs.Decisions.{Passed, more}
-use Rattle.lists.specs.Serving.{done-passed}
+use Rattle.lists.specs.Serving.{done-passed, done-served}
+use Rattle.lyndon.specs.Ranks.{Bytes}
 use Rattle.lyndon.specs.Stored.{Stored, Acceptable, passes, table-text, table-chair}
 
 -- the work slice is long enough
@@ -44,3 +47,35 @@ pub checked-built : (o : Order) (t work : List ℕ) (k h : ℕ) → outcome (che
     → (text : List ℕ) × (chair : ℕ) × Stored text chair × (t ≡ tableOf o text chair)
 unfolding checkService
 checked-built o t work k h e = passes o t .0 (passed-acceptable o t (length work) [] (subst Passed (sym (append-nil (tableChecks o t (length work)))) (done-passed (checkService o t work) e)))
+
+-- u is the table of a drive and a chair number: checking accepts it, and reading gives both back
+pub record Built (o : Order) (text : List ℕ) (chair : ℕ) (u : List ℕ) : Type 0 where
+  pub table : u ≡ tableOf o text chair
+  pub checked : (work : List ℕ) → 16384 ≤ length work → outcome (checkService o u work) ≡ done (ruleCount u) 0
+  pub read : (work : List ℕ) → 16384 ≤ length work → (result : List ℕ) → length text ≤ length result
+      → (outcome (readService o u work result) ≡ done (length text) chair) × (slicesAfter (readService o u work result) ≡ cleared work ∷ placed text result ∷ [])
+
+-- of every call that serves and answers k, of bytes and a chair number that has two
+pub build-returned : (o : Order) (text : List ℕ) (chair : ℕ) (work result : List ℕ) (r : Answer) {work′ result′ : List ℕ} (k : ℕ) → Bytes text → chair < 65536
+    → Serves (buildService o text chair work result) (Answers r) (work′ ∷ result′ ∷ []) → outcomeOf r ≡ done k 0
+    → (k ≡ length (tableOf o text chair)) × Built o text chair (take k result′)
+unfolding buildService
+build-returned o text chair work result r {work′} {result′} k b c v e =
+    let u = tableOf o text chair in
+    let (passed, success, slices) = done-served r v e in
+    let q : length u ≡ k = cc in
+    let held : result′ ≡ placed u result = ap (λ (l : List (List ℕ)). getD l 1 []) slices in
+    let front : take k result′ ≡ u = ap₂ {C = List ℕ} take (sym q) held ∙ placed-front u result in
+    (sym q, subst (Built o text chair) (sym front) (built (fits passed)))
+  where
+    fits : {rest : List Check} → Passed (textTooLong text ∷ rest) → length text ≤ 2047
+    fits (more _ x _) = ltb-false 2047 (length text) x
+
+    built : length text ≤ 2047 → Built o text chair (tableOf o text chair)
+    built short =
+        let ok : Stored text chair = record { short = short; bytes = b; chairs = c } in
+        record {
+          table = refl;
+          checked = λ w long. built-checked o text chair w ok long;
+          read = λ w long l room. (built-read o text chair w ok long l room, built-back o text chair w ok long l room);
+        }

@@ -7,18 +7,18 @@ use mathlib.Core.Logic.{_⊎_, inl, inr, ⊎-elim}
 use mathlib.Core.List.{List, [], _∷_, _++_, map, append-assoc, List·Memᴰ as In, List·Memᴰ·head as here, List·Memᴰ·tail as there, List·Memᴰ·not-nil as in-nil, List·Memᴰ·cases-cons as in-cons}
 use Prim.Native.Nat.{ℕ, suc, _+_, _-_, _≤_, _<_}
 use native.Mathlib.Omega.{arith}
-use lib.ListN.{length, drop, length-append, length-drop}
-use lib.Seq.{drop-append-add, drop-append-le, drop-append-seam}
+use lib.ListN.{length, take, drop, length-append, length-drop}
+use lib.Seq.{take-append-seam, drop-append-add, drop-append-le, drop-append-seam}
 use lib.Dec.{ltb, eqb}
 use borrow.Author.Tests.{ltb-true, lt-ltb, eqb-true, eq-eqb}
 use Rattle.definitions.specs.Words.{below, begins}
 use Rattle.definitions.specs.Occurrences.{occurrences, liveCuts, listedCuts, straddles, straddling, cutIn, cutAt}
 use Rattle.lists.specs.Bools.{bool-ext, not-so, and-left, and-right, and-intro, and-same, or-left, or-right, or-cases}
-use Rattle.lists.specs.Numbers.{Rising, rising-most, below-in, below-lt, below-rising, below-ext, below-stop, below-append, below-split}
+use Rattle.lists.specs.Numbers.{rising-most, below-in, below-lt, below-rising, below-ext, below-stop, below-append, below-split}
 use Rattle.lists.specs.Strings.{begins-rest, rest-begins}
 use Rattle.lyndon.specs.Factorization.{Std}
 use Rattle.lyndon.specs.Cuts.{live-cut, Straddle, straddle-view, straddle-live, straddle-once}
-use Rattle.lyndon.specs.Listed.{listed-live, straddle-listed, listed-rising}
+use Rattle.lyndon.specs.Listed.{listed-live, straddle-listed}
 
 cut-in : (cuts u : List ℕ) (i : ℕ) → cutIn cuts u i ≡ true → (c : ℕ) × In c cuts × (i + c ≡ length u)
 unfolding cutIn
@@ -84,20 +84,7 @@ listed-suffice p =
       straddle = straddle-listed p;
     }
 
--- the cuts that a search tries at a join: the listed cuts
-unfoldable pub triedCuts : List ℕ → List ℕ
-triedCuts p = listedCuts p
-
-pub tried-suffice : (p : List ℕ) → Suffices p (triedCuts p)
-unfolding triedCuts
-tried-suffice p = listed-suffice p
-
-pub tried-rising : (p : List ℕ) → Rising (triedCuts p)
-unfolding triedCuts
-tried-rising p = listed-rising p
-
--- an occurrence is cut at the join at one of the cuts exactly when, for some c of them, it begins c before the join: u ends with the
--- first c symbols of p and v begins with the others
+-- an occurrence is cut at the join at one of the cuts exactly when, for some c of them, it begins c before the join
 pub cut-at : (p cuts u v : List ℕ) (i : ℕ) → In i (cutAt p cuts u v) → (c : ℕ) × In c cuts × (i + c ≡ length u) × (begins p (drop i (u ++ v)) ≡ true)
 unfolding cutAt
 cut-at p cuts u v i m =
@@ -119,6 +106,18 @@ at-cut p cuts x y q k m e =
 
     regroup : whole ≡ x ++ (p ++ y)
     regroup = append-assoc x q (k ++ y) ∙ ap (λ (z : List ℕ). x ++ z) (sym (append-assoc q k y) ∙ ap (λ (z : List ℕ). z ++ y) (sym e))
+
+-- where it begins c before the join, u ends with the first c symbols of p and v begins with the others
+pub cut-parts : (p u v : List ℕ) (i c : ℕ) → 0 < c → c < length p → i + c ≡ length u → begins p (drop i (u ++ v)) ≡ true
+    → (drop i u ≡ take c p) × (begins (drop c p) v ≡ true)
+cut-parts p u v i c some few e h =
+    let s = straddle-view p u v i h (omega arith) (omega arith) in
+    let size : length (s .front) ≡ c = omega (arith, s .place, ap length (s .left), length-append (s .before) (s .front)) in
+    let ends : drop i u ≡ s .front =
+    ap (drop i) (s .left) ∙ ap (λ (k : ℕ). drop k (s .before ++ s .front)) (sym (s .place)) ∙ drop-append-seam (s .before) (s .front) in
+    let front : take c p ≡ s .front = ap (take c) (s .cut) ∙ ap (λ (k : ℕ). take k (s .front ++ s .rest)) (sym size) ∙ take-append-seam (s .front) (s .rest) in
+    let rest : drop c p ≡ s .rest = ap (drop c) (s .cut) ∙ ap (λ (k : ℕ). drop k (s .front ++ s .rest)) (sym size) ∙ drop-append-seam (s .front) (s .rest) in
+    (ends ∙ sym front, rest-begins (drop c p) v (s .behind) (s .right ∙ ap (λ (l : List ℕ). l ++ s .behind) (sym rest)))
 
 -- at most one occurrence straddles
 pub straddling-most : (p u v : List ℕ) → Std u v → length (straddling p u v) ≤ 1

@@ -8,10 +8,9 @@ use lib.Seq.{getD-set-same}
 use Rattle.definitions.specs.declared.Order.{Order}
 use Rattle.definitions.specs.Words.{placed}
 use Rattle.definitions.specs.Table.{rankOf}
-use Rattle.definitions.specs.Occurrences.{patternCuts}
+use Rattle.definitions.specs.Occurrences.{listedCuts, patternCuts}
 use Rattle.lists.specs.Lists.{placed-length}
 use Rattle.lists.specs.Parts.{part, part-agree, part-set-behind, lent-length, lent-before, lent-part}
-use Rattle.lyndon.specs.Joins.{triedCuts}
 use Rattle.lyndon.specs.Ranks.{slice-bytes}
 use Rattle.layout.specs.Layout.{TABLE, FOUND, PATTERN, CUTS, NO_CUT, WORK}
 use Rattle.state.specs.State.{Loaded}
@@ -55,7 +54,7 @@ counting-start o p text chair w z v y m k n h q e f g c few most d =
             filled = q .filled;
             short = q .short;
             few = omega arith;
-            cuts = part-set-behind CUTS n x (CUTS + n) NO_CUT (omega arith) ∙ ap (λ (i : ℕ). part CUTS i x) c ∙ cuts ∙ sym (ap triedCuts (behind ∙ ranks) ∙ tried-cuts o p);
+            cuts = part-set-behind CUTS n x (CUTS + n) NO_CUT (omega arith) ∙ ap (λ (i : ℕ). part CUTS i x) c ∙ cuts ∙ sym (ap listedCuts (behind ∙ ranks) ∙ tried-cuts o p);
             end = getD-set-same x (CUTS + n) NO_CUT 0 (omega (arith, cuts-outside .size, ranks-outside .size, long));
           };
       found = λ r l. absurd (omega arith);

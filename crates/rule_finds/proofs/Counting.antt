@@ -11,11 +11,11 @@ use lib.Dec.{eqb}
 use Rattle.definitions.specs.declared.Order.{Order}
 use Rattle.definitions.specs.Words.{below, begins}
 use Rattle.definitions.specs.Table.{rankOf, tableOf, ruleString, leftHalf, rightHalf, ruleCount}
-use Rattle.definitions.specs.Occurrences.{occurrences, straddling, patternCuts, testsOf, testsBelow, tests}
+use Rattle.definitions.specs.Occurrences.{occurrences, straddling, listedCuts, patternCuts, testsOf, testsBelow, tests}
 use Rattle.lists.specs.Bools.{contra}
 use Rattle.lists.specs.Numbers.{split-lt}
 use Rattle.lists.specs.Parts.{part, part-at, part-length, part-set-before}
-use Rattle.lyndon.specs.Joins.{triedCuts, occurrences-join}
+use Rattle.lyndon.specs.Joins.{occurrences-join}
 use Rattle.lyndon.specs.Occurrences.{occurrences-most}
 use Rattle.lyndon.specs.Stored.{rule-range}
 use Rattle.lyndon.specs.Tests.{fitting, tests-pair, tests-more, rule-few}
@@ -113,13 +113,13 @@ module _ (o : Order) (t p : List ℕ) (r u v n c : ℕ) (h : PairOf t r u v) (e 
 
 -- ---- the cuts
 
-pub tried-cuts : (o : Order) (p : List ℕ) → triedCuts (map (rankOf o) p) ≡ patternCuts o p
-unfolding triedCuts patternCuts
+pub tried-cuts : (o : Order) (p : List ℕ) → listedCuts (map (rankOf o) p) ≡ patternCuts o p
+unfolding patternCuts
 tried-cuts o p = refl
 
 -- those that are tried are the pattern's
 cuts-here : {o : Order} {p text : List ℕ} {chair m n r : ℕ} {w : List ℕ} → Counting o p text chair m n r w → part CUTS n w ≡ patternCuts o p
-cuts-here {o = o} {p = p} h = h .tried .cuts ∙ ap triedCuts (h .ranks) ∙ tried-cuts o p
+cuts-here {o = o} {p = p} h = h .tried .cuts ∙ ap listedCuts (h .ranks) ∙ tried-cuts o p
 
 same-fitting : {m n a b c d : ℕ} {x y : List ℕ} → m ≡ n → a ≡ b → c ≡ d → x ≡ y → fitting m a c x ≡ fitting n b d y
 same-fitting e f g h = rw (e, f, g, h)
@@ -213,7 +213,7 @@ counted-more o p text chair m n r w x h low f =
             filled = h .tried .filled;
             short = h .tried .short;
             few = h .tried .few;
-            cuts = part-set-before CUTS n w (FOUND + r) x (omega arith) ∙ h .tried .cuts ∙ ap triedCuts (sym ranks);
+            cuts = part-set-before CUTS n w (FOUND + r) x (omega arith) ∙ h .tried .cuts ∙ ap listedCuts (sym ranks);
             end = getD-set-other w (FOUND + r) (CUTS + n) x 0 (λ e. omega arith) ∙ h .tried .end;
           };
       found = λ q l. split-lt q r
