@@ -18,7 +18,7 @@ ghost use Rattle.motif_output.specs.Steps.{driveStep, motifStep, Built, 
 
 // Writes what the program prints at the front of `out`, and answers how many bytes that is.
 pub fn answer(input: &[u8], out: &mut [u8]) -> usize
-    requires { ⌜ 24576 ≤ length (now out) ⌝ }
+    requires { ⌜ 22551 ≤ length (now out) ⌝ }
     ensures { λ n. ⌜ n ≡ length (motifOutput sampleOrder (now (input .entry))) ⌝ }
     ensures { λ _. ⌜ now (out .exit) ≡ placed (motifOutput sampleOrder (now (input .entry))) (now (out .entry)) ⌝ }
 {
@@ -32,7 +32,7 @@ pub fn answer(input: &[u8], out: &mut [u8]) -> usize
 
 // The same, once the drive's table is built.
 fn answer_built<'a>(input: &'a [u8], table: &'a [u32], out: &mut [u8]) -> usize
-    requires { ⌜ Built (now input) (now table) × (24576 ≤ length (now out)) ⌝ }
+    requires { ⌜ Built (now input) (now table) × (22551 ≤ length (now out)) ⌝ }
     ensures { λ n. ⌜ n ≡ length (searchOutput sampleOrder (now (input .entry))) ⌝ }
     ensures { λ _. ⌜ now (out .exit) ≡ placed (searchOutput sampleOrder (now (input .entry))) (now (out .entry)) ⌝ }
 {

@@ -1,33 +1,37 @@
 // Standard input, as the programs read it: to its end, or until a slice is full.
 use libc::STDIN_FILENO;
 ghost use mathlib.Core.Path.{_≡_};
-ghost use mathlib.Core.Bool.{cond};
-ghost use Prim.Native.Nat.{_+_, _≤_, _<_};
 ghost use lib.ListN.{length};
+ghost use Rattle.standard_input.specs.Reading.{Fits, answerAt};
 
-// Reads until the slice is full or the input ends, and answers how many bytes were read; one more than the slice has where a read fails.
-pub fn read_input(input: &mut [u8]) -> usize
-    ensures { λ n. ⌜ n ≤ length (now (input .entry)) + 1 ⌝ }
+// So many bytes were read, or a read failed.
+pub enum Input {
+    Read(usize),
+    Failed,
+}
+
+// Reads until the slice is full or the input ends, and answers how many bytes were read.
+pub fn read_input(input: &mut [u8]) -> Input
+    ensures { λ x. ⌜ Fits x (length (now (input .entry))) ⌝ }
 {
     let mut n = 0;
     while n < input.len() {
         let got = libc::read(STDIN_FILENO, &mut input[n..]);
         let more = io::count(got, &input[n..]);
         if more == 0 {
-            return ended(got < 0, n, input.len());
+            return ended(got < 0, n);
         }
         n += more;
     }
-    n
+    Input::Read(n)
 }
 
-// How many bytes were read into a slice of `size`: n before a read that gave none, and one more than the slice has where that failed.
-fn ended(failed: bool, n: usize, size: usize) -> usize
-    requires { ⌜ (n ≤ size) × (size < 18446744073709551615) ⌝ }
-    ensures { λ r. ⌜ (r ≡ cond failed (size + 1) n) × (r ≤ size + 1) ⌝ }
+// What is answered once a read gave no byte, n bytes behind it: the input ended there, or the read failed.
+fn ended(failed: bool, n: usize) -> Input
+    ensures { λ x. ⌜ x ≡ answerAt failed n ⌝ }
 {
     if failed {
-        return size + 1;
+        return Input::Failed;
     }
-    n
+    Input::Read(n)
 }

@@ -1,9 +1,12 @@
 -- `read_input` reads until the slice is full. The loop's invariant: what is read fits.
 use mathlib.Core.Path.{_≡_, refl}
-use Prim.Native.Nat.{_-_, _≤_}
+use mathlib.Core.Bool.{Bool, true, false}
+use Prim.Native.Nat.{ℕ, _-_, _≤_}
 use native.Mathlib.Omega.{arith}
 use lib.ListN.{length}
 use borrow.Author.Needs.{needs}
+use Rattle.standard_input.specs.declared.Input.{Input}
+use Rattle.standard_input.specs.Reading.{Fits, answerAt}
 use Rattle.standard_input.proofs.read_input.Statement.{statement}
 use Rattle.standard_input.proofs.read_input.Tie as tie
 
@@ -16,9 +19,24 @@ abbrev μ-loop : tie.MeasureT-loop
 loop-holds : tie.Need-loop-holds Inv-loop μ-loop
 loop-holds c = (omega arith, refl)
 
+-- what is answered once a read gave nothing fits too
+fits : (failed : Bool) (x : Input) (n size : ℕ) → x ≡ answerAt failed n → n ≤ size → Fits x size
+unfolding Fits answerAt
+fits true x n size e h = rw e tt
+fits false x n size e h = rw e h
+
+returns : tie.Need-returns Inv-loop μ-loop
+returns c =
+    let at = c .before .before .before .before .before .before .before .before .before .before in
+    fits _ (c .ended .result) (at .loop .n) (length (at .before .before .args .input .now)) (c .ended .ensures) (at .loop .inv .0)
+
+returns-2 : tie.Need-returns-2 Inv-loop μ-loop
+unfolding Fits
+returns-2 c = c .before .loop .inv .0
+
 pub read-input-spec : {M : Type 1} → statement M
 read-input-spec =
     tie.close
     (tie.spec Inv-loop μ-loop loop-holds (λ c. search needs) (λ c. search needs) (λ c. search needs) (λ c κs. search needs) (λ c. search needs)
-    (λ c. search needs) (λ c. search needs) (λ c κs. search needs) (λ c κs. search needs) (λ c. search needs) (λ c. search needs) (λ c. search needs)
-    (λ c. search needs) (λ c. search needs) (λ c. search needs) (λ c. search needs))
+    (λ c. search needs) (λ c. search needs) (λ c κs. search needs) (λ c κs. search needs) (λ c. search needs) returns (λ c. search needs)
+    (λ c. search needs) (λ c. search needs) (λ c. search needs) returns-2)
