@@ -73,9 +73,9 @@ ofSteps = tableOf sampleOrder (5 ∷ 2 ∷ 2 ∷ 250 ∷ 2 ∷ []) 40
 abbrev pub ahead : List ℕ
 ahead = 0 ∷ 1 ∷ 0 ∷ []
 
--- work slices: enough words
+-- work slices: one word more than enough
 abbrev pub room : List ℕ
-room = replicate 16384 7
+room = replicate 16385 7
 
 -- what the program prints: `refused N`; and `rules R`, `found F` and positions
 abbrev pub refusedWith : ℕ → List ℕ
@@ -110,6 +110,12 @@ pub data Sample : Type 0 where
   says : ℕ → Bool → Sample
   -- the lowest index of the drive that is off heading, and whether the drive is a profile drive
   profile : List ℕ → ℕ → Bool → Sample
+  -- whether x is smaller than y; whether the string is a Lyndon word; the length of the longest that begins at the position of the string
+  smaller : List ℕ → List ℕ → Bool → Sample
+  isWord : List ℕ → Bool → Sample
+  longest : List ℕ → ℕ → ℕ → Sample
+  -- whether the text is a drive
+  drive : List ℕ → Bool → Sample
   -- the Lyndon array of the drive
   lengths : List ℕ → List ℕ → Sample
   -- the ranks of the bytes
@@ -120,7 +126,7 @@ pub data Sample : Type 0 where
   ends : Service → ℕ → ℕ → ℕ → ℕ → Sample
   -- the slice that is lent last holds this afterwards
   leaves : Service → List ℕ → Sample
-  -- whether the work slice of words 7, which is lent first, is cleared
+  -- whether of the work slice of words 7, which is lent first, all but the last word are cleared, or none
   clears : Service → Bool → Sample
   -- the slice, cleared, has this as its first word and its words from 16,383 on
   clearing : List ℕ → List ℕ → Sample
@@ -178,12 +184,16 @@ holds (rearranged text l) = same (toSteps text) l && same (fromSteps l) text
 holds (follow text p places) = same (stepFinds p text) places && same (finds Steps p (toSteps text)) places
 holds (says form b) = eqb (length (searched (contentOf form) (a ∷ []))) (cond b 0 1)
 holds (profile text i b) = eqb (firstOff text) i && cond (isProfile text) b (not b)
+holds (smaller x y b) = cond (lexlt x y) b (not b)
+holds (isWord w b) = cond (lyndon w) b (not b)
+holds (longest s i n) = eqb (lyndonLength s i) n
+holds (drive text b) = cond (isDrive text) b (not b)
 holds (lengths text l) = same (lyndonArray (map (rankOf sampleOrder) text)) l
 holds (ranks bytes l) = same (map (rankOf sampleOrder) bytes) l
 holds (table text chair t) = same (tableOf sampleOrder text chair) t
 holds (ends s number place count beside) = same (parts (outcome s)) (number ∷ place ∷ count ∷ beside ∷ [])
 holds (leaves s after) = same (last (slicesAfter s)) after
-holds (clears s b) = eqb (getD (getD (slicesAfter s) 0 []) 0 7) (cond b 0 7)
+holds (clears s b) = same (edges (getD (slicesAfter s) 0 [])) (cond b (0 ∷ 0 ∷ 7 ∷ []) (7 ∷ 7 ∷ 7 ∷ []))
 holds (clearing work l) = same (edges (cleared work)) l
 holds (answers r number place count) = same (parts (outcomeOf r)) (number ∷ place ∷ count ∷ 0 ∷ [])
 holds (reads r number place count chair) = same (parts (readOutcome r)) (number ∷ place ∷ count ∷ chair ∷ [])
@@ -241,6 +251,15 @@ samples =
     ∷ joins (a ∷ b ∷ b ∷ b ∷ []) 5 (b ∷ b ∷ b ∷ []) (1 ∷ [])
     ∷ joins (a ∷ b ∷ b ∷ b ∷ []) 5 (b ∷ []) []
     ∷ joins abab 5 (a ∷ b ∷ []) []
+    ∷ joins (128 ∷ []) 2 (128 ∷ 128 ∷ []) []
+    ∷ smaller [] (a ∷ []) true
+    ∷ smaller (a ∷ []) (a ∷ []) false
+    ∷ isWord [] false
+    ∷ isWord (a ∷ b ∷ []) true
+    ∷ longest [] 0 0
+    ∷ drive (replicate 2048 a) false
+    ∷ drive (255 ∷ []) true
+    ∷ drive (256 ∷ []) false
     ∷ tries abab (b ∷ a ∷ []) (3 ∷ 1 ∷ 4 ∷ 1 ∷ 5 ∷ 1 ∷ [])
     ∷ tries abab (b ∷ a ∷ b ∷ []) (4 ∷ 1 ∷ 5 ∷ 1 ∷ [])
     ∷ tries abab (a ∷ []) []
@@ -302,7 +321,7 @@ samples =
     ∷ ends (buildService sampleOrder abab 40 room (replicate 12 7)) 0 0 12 0
     ∷ ends (buildService sampleOrder abab 40 room (replicate 11 7)) 9 12 0 0
     ∷ ends (checkService sampleOrder ofAbab room) 0 0 6 0
-    ∷ ends (checkService sampleOrder [] (drop 1 room)) 4 0 0 0
+    ∷ ends (checkService sampleOrder [] (drop 2 room)) 4 0 0 0
     ∷ ends (checkService sampleOrder [] room) 5 0 0 0
     ∷ ends (checkService sampleOrder (0 ∷ []) room) 5 0 0 0
     ∷ ends (checkService sampleOrder (drop 1 ofAbab) room) 5 0 0 0
@@ -324,7 +343,7 @@ samples =
     ∷ rules ahead 6
     ∷ ends (buildProfileService sampleOrder ahead 40 room (replicate 12 7)) 0 0 12 0
     ∷ ends (buildProfileService sampleOrder ahead 40 room (replicate 11 7)) 9 12 0 0
-    ∷ ends (buildProfileService sampleOrder ahead 40 (drop 1 room) []) 4 0 0 0
+    ∷ ends (buildProfileService sampleOrder ahead 40 (drop 2 room) []) 4 0 0 0
     ∷ ends (buildProfileService sampleOrder (1 ∷ 0 ∷ []) 40 [] []) 12 0 0 0
     ∷ ends (buildProfileService sampleOrder (0 ∷ 1 ∷ []) 40 [] []) 12 0 0 0
     ∷ ends (buildProfileService sampleOrder [] 40 [] []) 12 0 0 0
@@ -337,7 +356,7 @@ samples =
     ∷ ends (checkProfileService sampleOrder twoRules room) 7 0 0 0
     ∷ ends (checkProfileService sampleOrder (drop 2 ofAbab) room) 6 5 0 0
     ∷ ends (checkProfileService sampleOrder [] room) 5 0 0 0
-    ∷ ends (checkProfileService sampleOrder [] (drop 1 room)) 4 0 0 0
+    ∷ ends (checkProfileService sampleOrder [] (drop 2 room)) 4 0 0 0
     ∷ ends (readService sampleOrder ofAbab room (replicate 4 7)) 0 0 4 40
     ∷ ends (readService sampleOrder ofAbab room (replicate 3 7)) 9 4 0 0
     ∷ ends (readService sampleOrder twoRules room (replicate 4 7)) 7 0 0 0
@@ -380,7 +399,7 @@ samples =
     ∷ ends (lyndonLengthService sampleOrder ofAbab 18446744073709551615 room) 8 0 0 0
     ∷ ends (lyndonLengthService sampleOrder (tableOf sampleOrder [] 40) 0 room) 8 0 0 0
     ∷ ends (lyndonLengthService sampleOrder twoRules 4 room) 7 0 0 0
-    ∷ ends (lyndonLengthService sampleOrder [] 0 (drop 1 room)) 4 0 0 0
+    ∷ ends (lyndonLengthService sampleOrder [] 0 (drop 2 room)) 4 0 0 0
     ∷ ends (lyndonArrayService sampleOrder (tableOf sampleOrder [] 40) room []) 0 0 0 0
     ∷ ends (lyndonArrayService sampleOrder ofAbab room (replicate 3 7)) 9 4 0 0
     ∷ ends (lyndonArrayService sampleOrder twoRules room []) 7 0 0 0
@@ -393,7 +412,7 @@ samples =
     ∷ ends (convertOrderService formerOrder sampleOrder ofRising room []) 7 0 0 0
     ∷ ends (convertOrderService formerOrder sampleOrder (drop 2 ofRising) room []) 6 5 0 0
     ∷ ends (convertOrderService formerOrder sampleOrder (drop 1 ofRising) room []) 5 0 0 0
-    ∷ ends (convertOrderService formerOrder sampleOrder [] (drop 1 room) []) 4 0 0 0
+    ∷ ends (convertOrderService formerOrder sampleOrder [] (drop 2 room) []) 4 0 0 0
     ∷ leaves (convertOrderService formerOrder sampleOrder ofRisingBefore room (replicate 11 7)) (ofRising ++ (7 ∷ []))
     ∷ leaves (convertOrderService formerOrder sampleOrder ofAbab room (replicate 12 7)) ofAbab
     ∷ leaves (convertOrderService formerOrder sampleOrder ofRising room (replicate 10 7)) (replicate 10 7)
@@ -411,7 +430,7 @@ samples =
     ∷ leaves (cutsService sampleOrder (a ∷ a ∷ b ∷ a ∷ []) (replicate 3 7)) (1 ∷ 3 ∷ 7 ∷ [])
     ∷ leaves (cutsService sampleOrder (0 ∷ 255 ∷ 1 ∷ []) (replicate 2 7)) (1 ∷ 7 ∷ [])
     ∷ leaves (cutsService sampleOrder (a ∷ a ∷ a ∷ a ∷ []) (replicate 3 7)) (1 ∷ 3 ∷ 7 ∷ [])
-    ∷ clearing (room ++ 7 ∷ []) (0 ∷ 0 ∷ 7 ∷ [])
+    ∷ clearing room (0 ∷ 0 ∷ 7 ∷ [])
     ∷ clears (checkService sampleOrder ofAbab room) true
     ∷ clears (checkService sampleOrder twoRules room) true
     ∷ clears (checkService sampleOrder (drop 2 ofAbab) room) false
@@ -427,6 +446,8 @@ samples =
     ∷ clears (countService sampleOrder ofAbab Steps (a ∷ []) room) false
     ∷ clears (countService sampleOrder ofAbab Steps (a ∷ a ∷ []) room) true
     ∷ clears (extractService sampleOrder ofAbab 4 1 room []) true
+    ∷ clears (readService sampleOrder ofAbab room []) true
+    ∷ clears (locateService sampleOrder ofAbab Samples (a ∷ []) room []) true
     ∷ clears (lyndonLengthService sampleOrder ofAbab 4 room) true
     ∷ clears (lyndonArrayService sampleOrder ofAbab room (replicate 3 7)) true
     ∷ clears (buildService sampleOrder abab 40 room (replicate 11 7)) true
@@ -472,8 +493,8 @@ samples =
     ∷ reports (replicate 2048 9) (refusedWith 1)
     ∷ ends (buildProfileService sampleOrder (replicate 2048 9) 40 [] []) 1 0 0 0
     ∷ ends (buildProfileService sampleOrder (replicate 2047 9) 40 [] []) 11 0 0 0
-    ∷ ends (buildService sampleOrder (replicate 2048 a) 40 (drop 1 room) []) 1 0 0 0
-    ∷ ends (buildService sampleOrder (replicate 2047 a) 40 (drop 1 room) []) 4 0 0 0
+    ∷ ends (buildService sampleOrder (replicate 2048 a) 40 (drop 2 room) []) 1 0 0 0
+    ∷ ends (buildService sampleOrder (replicate 2047 a) 40 (drop 2 room) []) 4 0 0 0
     ∷ ends (countService sampleOrder [] Samples (replicate 2048 a) []) 3 0 0 0
     ∷ ends (countService sampleOrder [] Samples (replicate 2047 a) []) 4 0 0 0
     ∷ ends (locateService sampleOrder [] Samples (replicate 2048 a) [] []) 3 0 0 0
