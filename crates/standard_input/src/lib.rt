@@ -19,18 +19,18 @@ pub fn read_input(input: &mut [u8]) -> Input
         let got = libc::read(STDIN_FILENO, &mut input[n..]);
         let more = io::count(got, &input[n..]);
         if more == 0 {
-            return ended(got < 0, n);
+            return ended(got, n);
         }
         n += more;
     }
     Input::Read(n)
 }
 
-// What is answered once a read gave no byte, n bytes behind it: the input ended there, or the read failed.
-fn ended(failed: bool, n: usize) -> Input
-    ensures { λ x. ⌜ x ≡ answerAt failed n ⌝ }
+// What is answered once a read gave no byte, n bytes behind it: the read failed, where what it answered is negative, or the input ended there.
+fn ended(got: isize, n: usize) -> Input
+    ensures { λ x. ⌜ x ≡ answerAt got n ⌝ }
 {
-    if failed {
+    if got < 0 {
         return Input::Failed;
     }
     Input::Read(n)

@@ -1,8 +1,8 @@
 -- `read_input` reads until the slice is full. The loop's invariant: what is read fits.
 use mathlib.Core.Path.{_≡_, refl}
-use mathlib.Core.Bool.{Bool, true, false}
 use Prim.Native.Nat.{ℕ, _-_, _≤_}
 use native.Mathlib.Omega.{arith}
+use lib.IntN.{ℤ, pos, negsuc}
 use lib.ListN.{length}
 use borrow.Author.Needs.{needs}
 use Rattle.standard_input.specs.declared.Input.{Input}
@@ -20,10 +20,10 @@ loop-holds : tie.Need-loop-holds Inv-loop μ-loop
 loop-holds c = (omega arith, refl)
 
 -- what is answered once a read gave nothing fits too
-fits : (failed : Bool) (x : Input) (n size : ℕ) → x ≡ answerAt failed n → n ≤ size → Fits x size
+fits : (got : ℤ) (x : Input) (n size : ℕ) → x ≡ answerAt got n → n ≤ size → Fits x size
 unfolding Fits answerAt
-fits true x n size e h = rw e tt
-fits false x n size e h = rw e h
+fits (pos k) x n size e h = rw e h
+fits (negsuc k) x n size e h = rw e tt
 
 returns : tie.Need-returns Inv-loop μ-loop
 returns c =
