@@ -1,19 +1,19 @@
 -- The checks of a pattern: none clears the work slice, and where none is met the pattern has 1 to 2,047 samples; so where it is searched for, and then something is
 -- searched for (`passed-search`).
-use mathlib.Core.Path.{_≡_, refl, sym, _∙_, ap}
+use mathlib.Core.Path.{_≡_, refl, sym, _∙_}
 use mathlib.Core.Bool.{false}
 use mathlib.Core.List.{List, [], _∷_}
 use Prim.Native.Nat.{ℕ, _≤_, _<_}
 use native.Mathlib.Omega.{arith}
 use lib.ListN.{length}
-use borrow.Author.Tests.{ltb-false, eqb-false, eq-eqb, ne-eqb}
+use borrow.Author.Tests.{ltb-false, eqb-false}
 use Rattle.definitions.specs.declared.Content.{Content}
 use Rattle.definitions.specs.declared.Content.the-variants.{Samples, Steps}
 use Rattle.definitions.specs.declared.Answer.{Answer}
 use Rattle.definitions.specs.declared.Answer.the-variants.{Done, Refused}
 use Rattle.definitions.specs.Steps.{searched}
 use Rattle.definitions.specs.Services.{firstMet, noStep, patternChecks, searchChecks}
-use Rattle.lists.specs.Decisions.{Passed, none, more, answered, refused-already, done-all, passed-front}
+use Rattle.lists.specs.Decisions.{Passed, none, more, checked, answered, refused-already, done-all, passed-front}
 use Rattle.lists.specs.Serving.{Clear}
 use Rattle.lyndon.specs.Steps.{steps-some}
 
@@ -48,16 +48,7 @@ module _ (p : List ℕ) {r : Answer} (e : r ≡ answered (patternChecks p) (leng
   search-refused Samples h = e
   search-refused Steps h = refused-already (patternChecks p) (length p) e h (noStep p ∷ [])
 
-  -- where the table holds steps
-  module _ {m : ℕ} (h : r ≡ Done m) where
-    pub no-step : m ≡ 1 → Refused 10 0 ≡ answered (searchChecks Steps p) (length p)
-    unfolding searchChecks firstMet
-    no-step f =
-        let (q, g) = done-all (patternChecks p) (length p) e h in
-        sym (passed-front (noStep p ∷ []) (λ c. Refused (c .number) (c .place)) (Done (length p)) q ∙ rw (eq-eqb (length p) 1 (sym g ∙ f)))
-
-    pub some-step : (m ≡ 1 → ⊥) → Done m ≡ answered (searchChecks Steps p) (length p)
-    unfolding searchChecks firstMet
-    some-step f =
-        let (q, g) = done-all (patternChecks p) (length p) e h in
-        ap Done g ∙ sym (passed-front (noStep p ∷ []) (λ c. Refused (c .number) (c .place)) (Done (length p)) q ∙ rw (ne-eqb (length p) 1 (λ k. f (g ∙ k))))
+  -- where the table holds steps the last check decides
+  pub search-steps : {m : ℕ} → r ≡ Done m → {s : Answer} → s ≡ checked (noStep p) (length p) → s ≡ answered (searchChecks Steps p) (length p)
+  unfolding searchChecks firstMet
+  search-steps h f = f ∙ sym (passed-front (noStep p ∷ []) (λ c. Refused (c .number) (c .place)) (Done (length p)) (done-all (patternChecks p) (length p) e h .0))

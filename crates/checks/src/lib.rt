@@ -6,7 +6,7 @@ use layout::WORK;
 ghost use mathlib.Core.Path.{_≡_};
 ghost use Prim.Native.Nat.{_≤_};
 ghost use lib.ListN.{length};
-ghost use Rattle.definitions.specs.Services.{cleared, textTooLong, patternChecks, searchChecks, workTooShort, tableLength};
+ghost use Rattle.definitions.specs.Services.{cleared, textTooLong, patternEmpty, patternTooLong, noStep, patternChecks, searchChecks, workTooShort, tableLength};
 ghost use Rattle.layout.specs.Layout.{WORK};
 ghost use Rattle.lists.specs.Decisions.{checked, answered};
 
@@ -25,13 +25,33 @@ pub fn text_fits(text: &[u8]) -> Answer
 pub fn pattern_fits(pattern: &[u8]) -> Answer
     ensures { λ r. ⌜ r ≡ answered (patternChecks (now (pattern .entry))) (length (now (pattern .entry))) ⌝ }
 {
+    let a = is_filled(pattern);
+    let Answer::Done(_) = a else {
+        return a;
+    };
+    is_short(pattern)
+}
+
+// Refusal 2, or the number of samples.
+fn is_filled(pattern: &[u8]) -> Answer
+    ensures { λ r. ⌜ r ≡ checked (patternEmpty (now (pattern .entry))) (length (now (pattern .entry))) ⌝ }
+{
     if pattern.len() == 0 {
-        return Answer::Refused(2, 0);
+        Answer::Refused(2, 0)
+    } else {
+        Answer::Done(pattern.len())
     }
+}
+
+// Refusal 3, or the number of samples.
+fn is_short(pattern: &[u8]) -> Answer
+    ensures { λ r. ⌜ r ≡ checked (patternTooLong (now (pattern .entry))) (length (now (pattern .entry))) ⌝ }
+{
     if 2047 < pattern.len() {
-        return Answer::Refused(3, 0);
+        Answer::Refused(3, 0)
+    } else {
+        Answer::Done(pattern.len())
     }
-    Answer::Done(pattern.len())
 }
 
 // Refusals 2, 3 and, where a table holds steps, 10, or the number of samples.
@@ -39,16 +59,24 @@ pub fn search_fits(content: Content, pattern: &[u8]) -> Answer
     ensures { λ r. ⌜ r ≡ answered (searchChecks content (now (pattern .entry))) (length (now (pattern .entry))) ⌝ }
 {
     let a = pattern_fits(pattern);
-    let Answer::Done(m) = a else {
+    let Answer::Done(_) = a else {
         return a;
     };
     let Content::Steps = content else {
         return a;
     };
-    if m == 1 {
-        return Answer::Refused(10, 0);
+    has_step(pattern)
+}
+
+// Refusal 10, or the number of samples.
+fn has_step(pattern: &[u8]) -> Answer
+    ensures { λ r. ⌜ r ≡ checked (noStep (now (pattern .entry))) (length (now (pattern .entry))) ⌝ }
+{
+    if pattern.len() == 1 {
+        Answer::Refused(10, 0)
+    } else {
+        Answer::Done(pattern.len())
     }
-    a
 }
 
 // Refusal 4 of a work slice of n words, or n.

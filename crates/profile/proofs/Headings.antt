@@ -12,9 +12,9 @@ use borrow.Author.Tests.{lt-leb, le-leb, lt-ltb, le-ltb}
 use Rattle.definitions.specs.declared.Answer.the-variants.{Done, Refused}
 use Rattle.definitions.specs.Words.{every}
 use Rattle.definitions.specs.Profile.{onHeading, firstOff, atRest}
-use Rattle.definitions.specs.Services.{firstMet, profileChecks}
+use Rattle.definitions.specs.Services.{offHeading, notAtRest}
 use Rattle.lists.specs.Numbers.{split-le, every-at, every-all, least-is, least-none}
-use Rattle.lists.specs.Decisions.{answered}
+use Rattle.lists.specs.Decisions.{checked}
 
 module _ (x : List ℕ) where
   -- ---- one byte more
@@ -62,15 +62,14 @@ module _ (x : List ℕ) where
 
   -- ---- what the two checks answer
 
-  pub off-refused : firstOff x < length x → Refused 11 (firstOff x) ≡ answered (profileChecks false x) (length x)
-  unfolding profileChecks firstMet
+  pub off-refused : firstOff x < length x → Refused 11 (firstOff x) ≡ checked (offHeading false x) (length x)
   off-refused h = rw (lt-ltb (firstOff x) (length x) h)
 
-  module _ (e : length x ≤ firstOff x) where
-    pub rest-refused : atRest x ≡ false → Refused 12 0 ≡ answered (profileChecks false x) (length x)
-    unfolding profileChecks firstMet
-    rest-refused h = rw (le-ltb (firstOff x) (length x) e, h)
+  pub none-off : length x ≤ firstOff x → Done (length x) ≡ checked (offHeading false x) (length x)
+  none-off h = rw (le-ltb (firstOff x) (length x) h)
 
-    pub profile-fits : atRest x ≡ true → Done (length x) ≡ answered (profileChecks false x) (length x)
-    unfolding profileChecks firstMet
-    profile-fits h = rw (le-ltb (firstOff x) (length x) e, h)
+  pub rest-refused : atRest x ≡ false → Refused 12 0 ≡ checked (notAtRest false x) (length x)
+  rest-refused h = rw h
+
+  pub at-rest-fits : atRest x ≡ true → Done (length x) ≡ checked (notAtRest false x) (length x)
+  at-rest-fits h = rw h

@@ -7,8 +7,8 @@ ghost use Prim.Native.Nat.{_≤_};
 ghost use lib.ListN.{length};
 ghost use Rattle.definitions.specs.Words.{every};
 ghost use Rattle.definitions.specs.Profile.{onHeading, firstOff, atRest};
-ghost use Rattle.definitions.specs.Services.{profileChecks, driveChecks};
-ghost use Rattle.lists.specs.Decisions.{answered};
+ghost use Rattle.definitions.specs.Services.{offHeading, notAtRest, profileChecks, driveChecks};
+ghost use Rattle.lists.specs.Decisions.{checked, answered};
 
 // Refusals 1, 11 and 12 of a drive, or the number of samples.
 pub fn drive_fits(text: &[u8]) -> Answer
@@ -25,10 +25,28 @@ pub fn drive_fits(text: &[u8]) -> Answer
 pub fn profile_fits(text: &[u8]) -> Answer
     ensures { λ r. ⌜ r ≡ answered (profileChecks false (now (text .entry))) (length (now (text .entry))) ⌝ }
 {
+    let h = headings_fit(text);
+    let Answer::Done(_) = h else {
+        return h;
+    };
+    ends_fit(text)
+}
+
+// Refusal 11, or the number of samples.
+fn headings_fit(text: &[u8]) -> Answer
+    ensures { λ r. ⌜ r ≡ checked (offHeading false (now (text .entry))) (length (now (text .entry))) ⌝ }
+{
     let off = first_off(text);
     if off < text.len() {
         return Answer::Refused(11, off);
     }
+    Answer::Done(text.len())
+}
+
+// Refusal 12, or the number of samples.
+fn ends_fit(text: &[u8]) -> Answer
+    ensures { λ r. ⌜ r ≡ checked (notAtRest false (now (text .entry))) (length (now (text .entry))) ⌝ }
+{
     if !at_rest(text) {
         return Answer::Refused(12, 0);
     }

@@ -1,26 +1,28 @@
--- `pattern_fits` answers its two checks.
-use native.Mathlib.Omega.{arith}
+-- `pattern_fits` is refused by 2, or answers what the check of 3 does.
 use lib.ListN.{length}
-use borrow.Author.Tests.{eq-eqb, ne-eqb, lt-ltb, le-ltb}
-use Rattle.definitions.specs.Services.{firstMet, patternChecks}
+use borrow.Author.Needs.{needs}
+use Rattle.definitions.specs.Services.{firstMet, patternEmpty, patternChecks}
+use Rattle.lists.specs.Decisions.{refused-met, done-met}
 use Rattle.checks.proofs.pattern_fits.Statement.{statement}
 use Rattle.checks.proofs.pattern_fits.Tie as tie
 
 returns : tie.Need-returns
-unfolding patternChecks firstMet
-returns c = simp (eq-eqb (length (c .before .args .pattern .now)) 0 (omega arith))
+unfolding firstMet patternChecks
+returns c =
+    let f = c .before .before in
+    let p = f .before .before .args .pattern .now in
+    let (q, e) = refused-met (patternEmpty p) (length p) (f .is-filled .ensures) (c .enum-told2 .given .1) in
+    rw q e
 
 returns-2 : tie.Need-returns-2
-unfolding patternChecks firstMet
+unfolding firstMet patternChecks
 returns-2 c =
-    let n = length (c .before .before .args .pattern .now) in
-    simp (ne-eqb n 0 (λ e. omega arith), lt-ltb 2047 n (omega arith))
-
-returns-3 : tie.Need-returns-3
-unfolding patternChecks firstMet
-returns-3 c =
-    let n = length (c .before .before .args .pattern .now) in
-    simp (ne-eqb n 0 (λ e. omega arith), le-ltb 2047 n (omega arith))
+    let k = c .before in
+    let f = k .before .before in
+    let p = f .before .before .args .pattern .now in
+    rw (done-met (patternEmpty p) (length p) (f .is-filled .ensures) (k .enum-told .given .1) .0) (c .is-short .ensures)
 
 pub pattern-fits-spec : {M : Type 1} → statement M
-pattern-fits-spec = tie.close (tie.spec returns returns-2 returns-3)
+pattern-fits-spec =
+    tie.close
+    (tie.spec (λ c κs. search needs) (λ c. search needs) (λ c. search needs) returns (λ c κs. search needs) returns-2)
