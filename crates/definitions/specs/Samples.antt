@@ -126,8 +126,9 @@ pub data Sample : Type 0 where
   ends : Service → ℕ → ℕ → ℕ → ℕ → Sample
   -- the slice that is lent last holds this afterwards
   leaves : Service → List ℕ → Sample
-  -- whether of the work slice of words 7, which is lent first, all but the last word are cleared, or none
+  -- whether the work slice of words 7, which is lent first, is cleared, by its first word; its first word and those from 16,383 on
   clears : Service → Bool → Sample
+  works : Service → List ℕ → Sample
   -- the slice, cleared, has this as its first word and its words from 16,383 on
   clearing : List ℕ → List ℕ → Sample
   -- the answer stands for this number, place and count
@@ -193,7 +194,8 @@ holds (ranks bytes l) = same (map (rankOf sampleOrder) bytes) l
 holds (table text chair t) = same (tableOf sampleOrder text chair) t
 holds (ends s number place count beside) = same (parts (outcome s)) (number ∷ place ∷ count ∷ beside ∷ [])
 holds (leaves s after) = same (last (slicesAfter s)) after
-holds (clears s b) = same (edges (getD (slicesAfter s) 0 [])) (cond b (0 ∷ 0 ∷ 7 ∷ []) (7 ∷ 7 ∷ 7 ∷ []))
+holds (clears s b) = eqb (getD (getD (slicesAfter s) 0 []) 0 8) (cond b 0 7)
+holds (works s l) = same (edges (getD (slicesAfter s) 0 [])) l
 holds (clearing work l) = same (edges (cleared work)) l
 holds (answers r number place count) = same (parts (outcomeOf r)) (number ∷ place ∷ count ∷ 0 ∷ [])
 holds (reads r number place count chair) = same (parts (readOutcome r)) (number ∷ place ∷ count ∷ chair ∷ [])
@@ -431,8 +433,6 @@ samples =
     ∷ leaves (cutsService sampleOrder (0 ∷ 255 ∷ 1 ∷ []) (replicate 2 7)) (1 ∷ 7 ∷ [])
     ∷ leaves (cutsService sampleOrder (a ∷ a ∷ a ∷ a ∷ []) (replicate 3 7)) (1 ∷ 3 ∷ 7 ∷ [])
     ∷ clearing room (0 ∷ 0 ∷ 7 ∷ [])
-    ∷ clears (checkService sampleOrder ofAbab room) true
-    ∷ clears (checkService sampleOrder twoRules room) true
     ∷ clears (checkService sampleOrder (drop 2 ofAbab) room) false
     ∷ clears (checkService sampleOrder [] room) false
     ∷ leaves (checkService sampleOrder ofAbab (7 ∷ [])) (7 ∷ [])
@@ -446,8 +446,15 @@ samples =
     ∷ clears (countService sampleOrder ofAbab Steps (a ∷ []) room) false
     ∷ clears (countService sampleOrder ofAbab Steps (a ∷ a ∷ []) room) true
     ∷ clears (extractService sampleOrder ofAbab 4 1 room []) true
-    ∷ clears (readService sampleOrder ofAbab room []) true
-    ∷ clears (locateService sampleOrder ofAbab Samples (a ∷ []) room []) true
+    ∷ works (checkService sampleOrder ofAbab room) (0 ∷ 0 ∷ 7 ∷ [])
+    ∷ works (checkService sampleOrder twoRules room) (0 ∷ 0 ∷ 7 ∷ [])
+    ∷ clears (buildService sampleOrder abab 40 (7 ∷ []) (8 ∷ [])) false
+    ∷ clears (buildProfileService sampleOrder ahead 40 (7 ∷ []) (8 ∷ [])) false
+    ∷ clears (readService sampleOrder ofAbab (7 ∷ []) (8 ∷ [])) false
+    ∷ clears (extractService sampleOrder ofAbab 0 1 (7 ∷ []) (8 ∷ [])) false
+    ∷ clears (locateService sampleOrder ofAbab Samples (a ∷ []) (7 ∷ []) (8 ∷ [])) false
+    ∷ clears (lyndonArrayService sampleOrder ofAbab (7 ∷ []) (8 ∷ [])) false
+    ∷ clears (convertOrderService formerOrder sampleOrder ofRisingBefore (7 ∷ []) (8 ∷ [])) false
     ∷ clears (lyndonLengthService sampleOrder ofAbab 4 room) true
     ∷ clears (lyndonArrayService sampleOrder ofAbab room (replicate 3 7)) true
     ∷ clears (buildService sampleOrder abab 40 room (replicate 11 7)) true
