@@ -1,50 +1,40 @@
 -- `lyndon_length` is refused where the table is not opened; else it is decided by the length at the position, and the work slice is cleared.
-use mathlib.Core.Path.{refl, _∙_}
+use mathlib.Core.Path.{refl}
 use native.Mathlib.Omega.{arith}
 use borrow.Author.Needs.{needs}
-use Rattle.definitions.specs.Services.{tableChecks, lyndonLengthService}
-use Rattle.lists.specs.Serving.{answer-refuses, passed, worked}
-use Rattle.checks.proofs.Fronts.{work-cleared}
-use Rattle.opening.proofs.Services.{ready, opened-cleared, opening-refused, opening-done}
+use Rattle.definitions.specs.Services.{sampleOrder, lyndonLengthService}
+use Rattle.lists.specs.Serving.{answer-refuses}
+use Rattle.opening.proofs.Services.{ready, opening-refused, Begun, opening-done, opening-lent}
 use Rattle.lyndon_words.proofs.lyndon_length.Statement.{statement}
 use Rattle.lyndon_words.proofs.lyndon_length.Tie as tie
 
 returns : tie.Need-returns
-unfolding lyndonLengthService tableChecks
+unfolding lyndonLengthService
 returns c =
     let m = c .before .before .before .before in
     opening-refused _ (m .admit .ensures) (c .enum-told .given .1) (answer-refuses (m .admit .result)) (λ d. refl)
 
+-- the table is opened
+begun : (k : tie.After-a) → let m = k .before .before .before .before in let a = m .before .before .before .before .args in
+    Begun sampleOrder (a .table .now) (a .work .now) (m .admit .last .1 .1 .0) (k .a .given .0 .0)
+begun k = opening-done (k .before .before .before .before .admit .ensures) (k .a .given .1)
+
 part-length-loaded-end : tie.Need-part-length-loaded-end
-part-length-loaded-end c =
-    let k = c .before in
-    omega (arith, opening-done (k .before .before .before .before .admit .ensures) (k .a .given .1) .1 .long)
+part-length-loaded-end c = omega (arith, begun (c .before) .loads .long)
 
 length-loaded-requires : tie.Need-length-loaded-requires
-unfolding ready
-length-loaded-requires c κs =
-    let k = c .before .before in
-    let (p, x, e) = opening-done (k .before .before .before .before .admit .ensures) (k .a .given .1) in
-    (ready x, e)
+length-loaded-requires c κs = let x = begun (c .before .before) in (ready (x .loads), x .rules)
 
 clear-front-requires : tie.Need-clear-front-requires
-clear-front-requires c κs =
-    let k = c .before .before .before .before .before .before in
-    omega (arith, opening-done (k .before .before .before .before .admit .ensures) (k .a .given .1) .1 .long)
+clear-front-requires c κs = omega (arith, begun (c .before .before .before .before .before .before) .loads .long)
 
 returns-2 : tie.Need-returns-2
-unfolding lyndonLengthService tableChecks ready
+unfolding lyndonLengthService ready
 returns-2 c =
     let z = c .before .before in
     let b = z .before .before .before .before in
-    let k = b .before .before .before in
-    let m = k .before .before .before .before in
-    let a = m .before .before .before .before .args in
-    let (p, x, e) = opening-done (m .admit .ensures) (k .a .given .1) in
-    passed p
-    (worked (a .work .now) (z .clear-front .last .0) (refl, refl)
-    (work-cleared (m .admit .last .1 .1 .0) (b .length-loaded .last .1 .1 .0) (z .clear-front .last .0) (x .long) (b .length-loaded .kept .1 .1 .0) (z .clear-front .ensures) ∙ opened-cleared x)
-    (b .length-loaded .ensures (ready x) e))
+    let x = begun (b .before .before .before) in
+    opening-lent x (refl, refl) (b .length-loaded .last .1 .1 .0) (b .length-loaded .kept .1 .1 .0) (z .clear-front .ensures) (b .length-loaded .ensures (ready (x .loads)) (x .rules))
 
 pub lyndon-length-spec : {M : Type 1} → statement M
 lyndon-length-spec =

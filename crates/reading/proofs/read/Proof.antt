@@ -3,10 +3,9 @@ use mathlib.Core.Path.{refl, _∙_, ap}
 use native.Mathlib.Omega.{arith}
 use borrow.Author.Needs.{needs}
 use Rattle.definitions.specs.declared.Answer.{Answer}
-use Rattle.definitions.specs.Services.{readOutcome, readService}
-use Rattle.lists.specs.Serving.{passed, worked}
+use Rattle.definitions.specs.Services.{readOutcome, sampleOrder, readService}
 use Rattle.results.specs.Results.{withChair}
-use Rattle.opening.proofs.Services.{ready, opened-cleared, opening-refused, opening-done}
+use Rattle.opening.proofs.Services.{ready, opening-refused, Begun, opening-done, opened-ready, opening-served}
 use Rattle.reading.proofs.read.Statement.{statement}
 use Rattle.reading.proofs.read.Tie as tie
 
@@ -17,33 +16,27 @@ returns c =
     opening-refused _ (m .admit .ensures) (c .before .enum-told .given .1)
     (λ x y e. ap readOutcome (c .with-chair .ensures ∙ ap (λ (a : Answer). withChair a 0) e)) (λ d. refl)
 
+-- the table is opened
+begun : (k : tie.After-a) → let m = k .before .before .before .before in let a = m .before .before .before .before .before .args in
+    Begun sampleOrder (a .table .now) (a .work .now) (m .admit .last .1 .1 .0) (k .a .given .0 .0)
+begun k = opening-done (k .before .before .before .before .admit .ensures) (k .a .given .1)
+
 part-read-loaded-end : tie.Need-part-read-loaded-end
-part-read-loaded-end c =
-    let k = c .before .before in
-    omega (arith, opening-done (k .before .before .before .before .admit .ensures) (k .a .given .1) .1 .long)
+part-read-loaded-end c = omega (arith, begun (c .before .before) .loads .long)
 
 read-loaded-requires : tie.Need-read-loaded-requires
-unfolding ready
-read-loaded-requires c κs =
-    let k = c .before .before .before .before in
-    let (p, x, e) = opening-done (k .before .before .before .before .admit .ensures) (k .a .given .1) in
-    (ready x, refl, e)
+read-loaded-requires c κs = opened-ready (begun (c .before .before .before .before))
 
 clear-front-requires : tie.Need-clear-front-requires
-clear-front-requires c κs =
-    let k = c .before .before .before .before .before .before .before .before in
-    opening-done (k .before .before .before .before .admit .ensures) (k .a .given .1) .1 .long
+clear-front-requires c κs = begun (c .before .before .before .before .before .before .before .before) .loads .long
 
 returns-2 : tie.Need-returns-2
 unfolding readService ready
 returns-2 c =
     let z = c .before .before in
     let b = z .before .before .before .before in
-    let k = b .before .before .before .before .before in
-    let m = k .before .before .before .before in
-    let a = m .before .before .before .before .before .args in
-    let (p, x, e) = opening-done (m .admit .ensures) (k .a .given .1) in
-    passed p (worked (a .work .now) (z .clear-front .last .0) (refl, refl) (z .clear-front .ensures ∙ opened-cleared x) (b .read-loaded .ensures (ready x) refl e))
+    let x = begun (b .before .before .before .before .before) in
+    opening-served x (refl, refl) (z .clear-front .ensures) (b .read-loaded .ensures (ready (x .loads)) refl (x .rules))
 
 pub read-spec : {M : Type 1} → statement M
 read-spec =
