@@ -14,9 +14,14 @@ use Rattle.lists.specs.Serving.{answer-refuses, refused-by, served}
 abbrev bothChecks : List ℕ → ℕ → ℕ → List Check
 bothChecks text needed n = textTooLong text ∷ resultTooShort needed n ∷ []
 
-module _ (text l result : List ℕ) (size : length l ≡ length text) {r : Answer} (e : r ≡ answered (bothChecks text (length text) (length result)) (length text)) where
+-- r answers both checks, and l is as long as the text
+pub record Judged (text l result : List ℕ) (r : Answer) : Type 0 where
+  pub size : length l ≡ length text
+  pub answer : r ≡ answered (bothChecks text (length text) (length result)) (length text)
+
+module _ {text l result : List ℕ} {r : Answer} (j : Judged text l result r) where
   said : r ≡ answered (bothChecks text (length l) (length result)) (length l)
-  said = e ∙ ap (λ (n : ℕ). answered (bothChecks text n (length result)) n) (sym size)
+  said = j .answer ∙ ap (λ (n : ℕ). answered (bothChecks text n (length result)) n) (sym (j .size))
 
   pub both-refused : {a b : ℕ} → r ≡ Refused a b → Serves (writes (textTooLong text ∷ []) l 0 result) (Answers r) (result ∷ [])
   both-refused f =
@@ -31,10 +36,10 @@ module _ (text l result : List ℕ) (size : length l ≡ length text) {r : Answe
     both-fit = go passes
       where
         go : Passed (bothChecks text (length l) (length result)) → length text ≤ length result
-        go (more a p (more b q none)) = rw (← size) (ltb-false (length result) (length l) q)
+        go (more a p (more b q none)) = rw (← j .size) (ltb-false (length result) (length l) q)
 
-    pub both-written : (after : List ℕ) → after ≡ placed l result → Serves (writes (textTooLong text ∷ []) l 0 result) (Answers r) (after ∷ [])
+    pub both-written : {after : List ℕ} → after ≡ placed l result → Serves (writes (textTooLong text ∷ []) l 0 result) (Answers r) (after ∷ [])
     unfolding outcomeOf
-    both-written after g =
+    both-written g =
         let n = done-all (bothChecks text (length l) (length result)) (length l) said f .1 in
         served passes (ap outcomeOf f ∙ ap (λ (k : ℕ). done k 0) n) (ap (λ (x : List ℕ). x ∷ []) g)

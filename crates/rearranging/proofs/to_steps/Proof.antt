@@ -3,33 +3,23 @@ use borrow.Author.Needs.{needs}
 use Rattle.definitions.specs.Steps.{toSteps}
 use Rattle.definitions.specs.Services.{toStepsService}
 use Rattle.lyndon.specs.Steps.{to-length}
-use Rattle.rearranging.proofs.Fitting.{both-refused, both-fit, both-written}
+use Rattle.rearranging.proofs.Fitting.{Judged, both-refused, both-fit, both-written}
 use Rattle.rearranging.proofs.to_steps.Statement.{statement}
 use Rattle.rearranging.proofs.to_steps.Tie as tie
 
+judged : (f : tie.After-both-fit) → let a = f .before .before .before .args in Judged (a .text .now) (toSteps (a .text .now)) (a .result .now) (f .both-fit .result)
+judged f = record { size = to-length (f .before .before .before .args .text .now); answer = f .both-fit .ensures }
+
 returns : tie.Need-returns
 unfolding toStepsService
-returns c =
-    let f = c .before .before in
-    let a = f .before .before .before .args in
-    let x = a .text .now in
-    both-refused x (toSteps x) (a .result .now) (to-length x) (f .both-fit .ensures) (c .enum-told2 .given .1)
+returns c = both-refused (judged (c .before .before)) (c .enum-told2 .given .1)
 
 rearrange-requires : tie.Need-rearrange-requires
-rearrange-requires c κs =
-    let f = c .before .before .before in
-    let a = f .before .before .before .args in
-    let x = a .text .now in
-    both-fit x (toSteps x) (a .result .now) (to-length x) (f .both-fit .ensures) (c .before .enum-told .given .1)
+rearrange-requires c κs = both-fit (judged (c .before .before .before)) (c .before .enum-told .given .1)
 
 returns-2 : tie.Need-returns-2
 unfolding toStepsService
-returns-2 c =
-    let w = c .before .before in
-    let f = w .before .before .before .before in
-    let a = f .before .before .before .args in
-    let x = a .text .now in
-    both-written x (toSteps x) (a .result .now) (to-length x) (f .both-fit .ensures) (w .before .before .enum-told .given .1) (w .rearrange .last .1 .0) (w .rearrange .ensures)
+returns-2 c = let w = c .before .before in both-written (judged (w .before .before .before .before)) (w .before .before .enum-told .given .1) (w .rearrange .ensures)
 
 pub to-steps-spec : {M : Type 1} → statement M
 to-steps-spec =
