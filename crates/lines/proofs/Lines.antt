@@ -6,10 +6,10 @@ use native.Mathlib.Omega.{arith}
 use native.Mathlib.Numerals.{add-one}
 use native.Mathlib.Nat.{mul-suc, add-le-add, mul-le-mul-left, le-trans}
 use lib.ListN.{length, take, drop, getD, length-append, length-take}
-use lib.Seq.{take-suc}
+use lib.Seq.{take-length, take-suc}
 use Rattle.definitions.specs.Words.{placed}
 use Rattle.decimals.proofs.Digits.{line-most}
-use Rattle.lists.specs.Lists.{placed-none, placed-length, placed-both}
+use Rattle.lists.specs.Lists.{placed-length, placed-both, Fronted, fronted-none, fronted-as}
 use Rattle.definitions.specs.Programs.{decimal, line, named, linesOf}
 
 -- ---- lengths
@@ -63,26 +63,31 @@ unfolding named
 named-stored name number old n m w z h e f g i =
     both-stored name (line (decimal number)) old w z n m (omega (arith, line-most number)) e f g i
 
-module _ (f : ℕ → List ℕ) where
-  pub lines-none : (l old : List ℕ) → (0 ≡ length (linesOf f (take 0 l))) × (old ≡ placed (linesOf f (take 0 l)) old)
+module _ (f : ℕ → List ℕ) (l : List ℕ) where
+  pub lines-none : (old : List ℕ) → Fronted (linesOf f (take 0 l)) old 0 old
   unfolding linesOf
-  lines-none l old = (refl, sym (placed-none old))
+  lines-none old = fronted-none old
 
-  pub lines-stored : (l old w z : List ℕ) (i n m x : ℕ) → i < length l → length (linesOf f (take i l)) + length (line (f x)) ≤ length old → x ≡ getD l i 0
-      → n ≡ length (linesOf f (take i l)) → w ≡ placed (linesOf f (take i l)) old
-      → m ≡ length (line (f x)) → z ≡ placed (line (f x)) (take (length w - n) (drop n w))
+  -- room for one more, of at most k bytes
+  pub lines-room : (k : ℕ) → ((n : ℕ) → length (line (f n)) ≤ k) → {old w : List ℕ} (i : ℕ) {n : ℕ} → i < length l → k * length l ≤ length old
+      → Fronted (linesOf f (take i l)) old n w → n + k ≤ length old
+  lines-room k most i h room x = omega (arith, x .count, front-most f k most l i, mul-suc k i, mul-le-mul-left k h)
+
+  pub lines-stored : {old w z : List ℕ} (i : ℕ) {n m x : ℕ} → i < length l → n + length (line (f x)) ≤ length old → x ≡ getD l i 0
+      → Fronted (linesOf f (take i l)) old n w → m ≡ length (line (f x)) → z ≡ placed (line (f x)) (take (length w - n) (drop n w))
       → (length (take n w ++ (z ++ drop (length w - n) (drop n w))) ≡ length old)
-      × (n + m ≡ length (linesOf f (take (i + 1) l)))
-      × (take n w ++ (z ++ drop (length w - n) (drop n w)) ≡ placed (linesOf f (take (i + 1) l)) old)
-  lines-stored l old w z i n m x h room e g k q r =
+      × Fronted (linesOf f (take (i + 1) l)) old (n + m) (take n w ++ (z ++ drop (length w - n) (drop n w)))
+  lines-stored {old} {w} {z} i {n} {m} {x} h room e y q r =
       let u = linesOf f (take i l) in
       let v = line (f x) in
       let more : u ++ v ≡ linesOf f (take (i + 1) l) = ap (λ (y : ℕ). u ++ line (f y)) e ∙ sym (lines-more f l i h) in
-      let (size, whole) = both-stored u v old w z n m room g k q r in (
-        ap length whole ∙ placed-length (u ++ v) old (omega (arith, length-append u v)),
-        size ∙ ap length more,
-        whole ∙ ap (λ (y : List ℕ). placed y old) more,
+      let (size, whole) = both-stored u v old w z n m (omega (arith, y .count)) (y .count) (y .holds) q r in (
+        ap length whole ∙ placed-length (u ++ v) old (omega (arith, y .count, length-append u v)),
+        record { count = size ∙ ap length more; holds = whole ∙ ap (λ (y : List ℕ). placed y old) more },
       )
+
+  pub lines-all : {old w : List ℕ} (i : ℕ) {n : ℕ} → i ≡ length l → Fronted (linesOf f (take i l)) old n w → (n ≡ length (linesOf f l)) × (w ≡ placed (linesOf f l) old)
+  lines-all i e x = fronted-as (ap (λ (k : ℕ). linesOf f (take k l)) e ∙ ap (linesOf f) (take-length l)) x
 
 -- ---- numbers in decimal
 

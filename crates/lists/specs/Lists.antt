@@ -1,4 +1,5 @@
--- Laws of lists: how two splits of one list overlap, lists with more behind (`Extends`), and the front of a slice, `placed`.
+-- Laws of lists: how two splits of one list overlap, lists with more behind (`Extends`), and the front of a slice, `placed`, which a loop
+-- counts as it writes (`Fronted`).
 use mathlib.Core.Path.{_≡_, refl, sym, _∙_, ap, ap₂}
 use mathlib.Core.List.{List, [], _∷_, _++_, map, map-append, append-assoc, append-nil, head-eq-of-cons-eq, tail-eq-of-cons-eq}
 use Prim.Native.Nat.{ℕ, suc, _+_, _-_, _≤_, _<_}
@@ -99,6 +100,19 @@ module _ {ℓ} {A : Type ℓ} where
       ∙ append-nil (placed v (drop (length u) old)))
       ∙ sym (append-assoc u v (drop (length v) (drop (length u) old)))
       ∙ ap (λ (l : List A). (u ++ v) ++ l) (drop-drop (length v) (length u) old ∙ ap (λ (k : ℕ). drop k old) (sym (length-append u v)))
+
+-- l stands at the front of w, where old stood, and has n entries: as a loop writes it and counts
+module _ {ℓ} {A : Type ℓ} where
+  pub record Fronted (l old : List A) (n : ℕ) (w : List A) : Type ℓ where
+    pub count : n ≡ length l
+    pub holds : w ≡ placed l old
+
+  pub fronted-none : (old : List A) → Fronted [] old 0 old
+  fronted-none old = record { count = refl; holds = sym (placed-none old) }
+
+  -- by another name of l
+  pub fronted-as : {l m old : List A} {n : ℕ} {w : List A} → l ≡ m → Fronted l old n w → (n ≡ length m) × (w ≡ placed m old)
+  fronted-as {old = old} e x = (x .count ∙ ap length e, x .holds ∙ ap (λ (k : List A). placed k old) e)
 
 -- the values of f at a list, placed one by one; the list may be what the slice held before
 pub mapped-more : (f : ℕ → ℕ) (l old w : List ℕ) (i : ℕ) → i < length l → length l ≤ length old → w ≡ placed (map f (take i l)) old

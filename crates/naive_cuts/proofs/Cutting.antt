@@ -1,6 +1,6 @@
 -- Cuts, with f the rank of a sample: the order alone tells a prefix (`too-short`, `front-greater`, `front-decides`) and how two tails compare (`prefix-passes`,
 -- `extended-passes`, `order-decides`); a cut is live, and listed, by what holds of every cut from 1 on that is tried (`beside` to `never-again`).
-use mathlib.Core.Path.{_≡_, refl, sym, _∙_, ap, ap₂}
+use mathlib.Core.Path.{_≡_, refl, sym, _∙_, ap, ap₂, subst}
 use mathlib.Core.Bool.{Bool, true, false, not, _&&_, _||_}
 use mathlib.Core.List.{List, [], _∷_, map}
 use Prim.Native.Nat.{ℕ, _+_, _-_, _≤_, _<_}
@@ -9,11 +9,12 @@ use lib.ListN.{length, take, drop, length-append, length-drop, length-map}
 use lib.Seq.{take-append-seam, length-take-le}
 use lib.Dec.{ltb, eqb}
 use borrow.Author.Tests.{lt-ltb, le-ltb, eq-eqb}
-use Rattle.definitions.specs.Words.{below, placed, begins, lexlt, lyndon}
+use Rattle.definitions.specs.Words.{below, begins, lexlt, lyndon}
 use Rattle.definitions.specs.Table.{rankOf}
 use Rattle.definitions.specs.declared.Order.{Order}
 use Rattle.definitions.specs.Occurrences.{notGreaterAtDifference, isLive, wordAgain, isListed, listedCuts, patternCuts}
 use Rattle.lists.specs.Bools.{contra, not-so, and-intro, or-left, or-right}
+use Rattle.lists.specs.Lists.{Fronted}
 use Rattle.lists.specs.Members.{take-map}
 use Rattle.lists.specs.Numbers.{split-le, split-lt}
 use Rattle.lists.specs.Strings.{begins-rest}
@@ -133,10 +134,8 @@ no-cut-at-0 : (p : List ℕ) → below (isListed p) 0 ≡ below (isListed p) 1
 unfolding below isListed isLive
 no-cut-at-0 p = refl
 
-pub none-listed : (p old : List ℕ) → (0 ≡ length (below (isListed p) 1)) × (old ≡ placed (below (isListed p) 1) old)
-none-listed p old =
-    let none = none-noted (isListed p) old in
-    (none .0 ∙ ap length (no-cut-at-0 p), none .1 ∙ ap (λ (l : List ℕ). placed l old) (no-cut-at-0 p))
+pub none-listed : (p old : List ℕ) → Fronted (below (isListed p) 1) old 0 old
+none-listed p old = subst (λ (l : List ℕ). Fronted l old 0 old) (no-cut-at-0 p) (none-noted (isListed p) old)
 
 pub all-listed : (o : Order) (l : List ℕ) (c : ℕ) → c ≤ length l - 1 + 1 → length l ≤ c → below (isListed (map (rankOf o) l)) c ≡ patternCuts o l
 unfolding patternCuts listedCuts

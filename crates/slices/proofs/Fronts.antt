@@ -6,7 +6,7 @@ use native.Mathlib.Omega.{arith}
 use native.Mathlib.Numerals.{add-one}
 use native.Mathlib.Nat.{le-refl}
 use lib.ListN.{length, take, getD, set, replicate, length-replicate, replicate-append-replicate, drop-of-length-le}
-use lib.Seq.{take-suc, length-take-le}
+use lib.Seq.{take-length, take-suc, length-take-le}
 use Rattle.definitions.specs.Words.{placed}
 use Rattle.lists.specs.Lists.{placed-more}
 
@@ -30,3 +30,6 @@ taken-more from old s i h k e =
     ∙ ap (λ (n : ℕ). set (placed (take i from) old) n (getD from i 0)) (sym size)
     ∙ sym (placed-more (take i from) old (getD from i 0) (omega arith))
     ∙ ap (λ (l : List ℕ). placed l old) (sym (take-suc from i 0 h) ∙ ap (λ (n : ℕ). take n from) (sym (add-one i)))
+
+pub taken-all : (from old s : List ℕ) (i : ℕ) → i ≡ length from → s ≡ placed (take i from) old → s ≡ placed from old
+taken-all from old s i h e = e ∙ ap (λ (l : List ℕ). placed l old) (ap (λ (n : ℕ). take n from) h ∙ take-length from)

@@ -68,9 +68,6 @@ loop-again c =
     (at .loop .n) (f .append-run .result) (a .cuts .now) (at .loop .cuts) (f .append-run .last .0) (s .pre .0) (at .loop .inv .3) (at .loop .inv .4) (f .append-run .ensures) in
     (refl, f .append-run .kept .0 ∙ at .loop .inv .1, x, y, z)
 
-same-length : tie.Need-same-length Inv-loop μ-loop
-same-length c = c .before .loop .inv .1
-
 returns : tie.Need-returns Inv-loop μ-loop
 returns c =
     let at = c .before in
@@ -81,4 +78,4 @@ returns c =
 pub list-spec : {M : Type 1} → statement M
 list-spec =
     tie.close
-    (tie.spec Inv-loop μ-loop loop-holds scan-requires append-run-requires loop-less loop-again same-length returns)
+    (tie.spec Inv-loop μ-loop loop-holds scan-requires append-run-requires loop-less loop-again (λ c. c .before .loop .inv .1) returns)

@@ -1,13 +1,11 @@
 -- `put_bytes` copies. The invariant: the bytes passed stand at the front.
-use mathlib.Core.Path.{_≡_, sym, _∙_, refl, ap}
-use mathlib.Core.List.{List}
-use Prim.Native.Nat.{ℕ, _≤_, _-_}
+use mathlib.Core.Path.{_≡_, sym, _∙_, refl}
+use Prim.Native.Nat.{_≤_, _-_}
 use native.Mathlib.Omega.{arith}
 use lib.ListN.{length, take, getD, length-set}
-use lib.Seq.{take-length}
 use Rattle.definitions.specs.Words.{placed}
 use Rattle.lists.specs.Lists.{placed-none}
-use Rattle.slices.proofs.Fronts.{taken-more}
+use Rattle.slices.proofs.Fronts.{taken-more, taken-all}
 use Rattle.lines.proofs.put_bytes.Statement.{statement}
 use Rattle.lines.proofs.put_bytes.Tie as tie
 
@@ -29,17 +27,13 @@ loop-again c =
       taken-more (a .bytes .now) (a .out .now) (at .loop .out) (at .loop .i) (omega arith) (omega arith) (at .loop .inv .2),
     )
 
-same-length : tie.Need-same-length Inv-loop μ-loop
-same-length c = c .before .loop .inv .1
-
 returns : tie.Need-returns Inv-loop μ-loop
 returns c =
     let at = c .before in
     let a = at .before .args in
-    let e : at .loop .i ≡ length (a .bytes .now) = omega arith in
-    (e, at .loop .inv .2 ∙ ap (λ (n : ℕ). placed (take n (a .bytes .now)) (a .out .now)) e ∙ ap (λ (l : List ℕ). placed l (a .out .now)) (take-length (a .bytes .now)))
+    (omega arith, taken-all (a .bytes .now) (a .out .now) (at .loop .out) (at .loop .i) (omega arith) (at .loop .inv .2))
 
 pub put-bytes-spec : {M : Type 1} → statement M
 put-bytes-spec =
     tie.close
-    (tie.spec Inv-loop μ-loop loop-holds (λ c. omega arith) (λ c. omega arith) (λ c. omega arith) (λ c. omega arith) loop-again same-length returns)
+    (tie.spec Inv-loop μ-loop loop-holds (λ c. omega arith) (λ c. omega arith) (λ c. omega arith) (λ c. omega arith) loop-again (λ c. c .before .loop .inv .1) returns)

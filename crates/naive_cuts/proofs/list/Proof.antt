@@ -1,13 +1,14 @@
 -- `list` tries every cut. The invariant: the cuts passed that are listed stand at the front of the slice.
-use mathlib.Core.Path.{_≡_, refl, _∙_, ap}
+use mathlib.Core.Path.{_≡_, refl, _∙_}
 use mathlib.Core.List.{List, map}
 use Prim.Native.Nat.{ℕ, _+_, _-_, _≤_}
 use native.Mathlib.Omega.{arith}
 use lib.ListN.{length}
-use Rattle.definitions.specs.Words.{below, placed}
+use Rattle.definitions.specs.Words.{below}
 use Rattle.definitions.specs.Table.{rankOf}
 use Rattle.definitions.specs.Occurrences.{isListed}
 use Rattle.definitions.specs.Services.{sampleOrder}
+use Rattle.lists.specs.Lists.{Fronted, fronted-as}
 use Rattle.lists.specs.Numbers.{below-length}
 use Rattle.naive.proofs.Noting.{one-more}
 use Rattle.naive_cuts.proofs.Cutting.{none-listed, all-listed}
@@ -20,7 +21,7 @@ listedBelow pattern c = below (isListed (map (rankOf sampleOrder) pattern)) c
 
 abbrev Inv-loop : tie.InvT-loop
 Inv-loop pattern cuts₀ c₀ n₀ cuts c n =
-    (c ≤ length pattern - 1 + 1) × (length cuts ≡ length cuts₀) × (n ≡ length (listedBelow pattern c)) × (cuts ≡ placed (listedBelow pattern c) cuts₀)
+    (c ≤ length pattern - 1 + 1) × (length cuts ≡ length cuts₀) × Fronted (listedBelow pattern c) cuts₀ n cuts
 
 abbrev μ-loop : tie.MeasureT-loop
 μ-loop pattern cuts₀ c₀ n₀ cuts c n = length pattern - c
@@ -28,8 +29,7 @@ abbrev μ-loop : tie.MeasureT-loop
 loop-holds : tie.Need-loop-holds Inv-loop μ-loop
 loop-holds c =
     let a = c .before .before .args in
-    let none = none-listed (map (rankOf sampleOrder) (a .pattern .now)) (a .cuts .now) in
-    (omega arith, refl, none .0, none .1)
+    (omega arith, refl, none-listed (map (rankOf sampleOrder) (a .pattern .now)) (a .cuts .now))
 
 noted-requires : tie.Need-noted-requires Inv-loop μ-loop
 noted-requires c κs =
@@ -43,20 +43,16 @@ loop-again c =
     let b = l .before .before in
     let at = b .before .before in
     let a = at .before .before .before .args in
-    let more = one-more (isListed (map (rankOf sampleOrder) (a .pattern .now))) (a .cuts .now) (at .loop .c) (at .loop .n) (l .noted .result) (at .loop .cuts) (l .noted .last .1 .1 .1 .0) (b .is-listed .result) (omega arith) (b .is-listed .ensures) (at .loop .inv .2) (at .loop .inv .3) (l .noted .ensures .0) (l .noted .ensures .1) in
-    (omega arith, l .noted .kept .1 .1 .1 .0 ∙ at .loop .inv .1, more .0, more .1)
-
-same-length : tie.Need-same-length Inv-loop μ-loop
-same-length c = c .before .loop .inv .1
+    let more = one-more (isListed (map (rankOf sampleOrder) (a .pattern .now))) (at .loop .c) (omega arith) (at .loop .inv .2) (b .is-listed .ensures) (l .noted .ensures .0) (l .noted .ensures .1) in
+    (omega arith, l .noted .kept .1 .1 .1 .0 ∙ at .loop .inv .1, more)
 
 returns : tie.Need-returns Inv-loop μ-loop
 returns c =
     let at = c .before in
     let a = at .before .before .before .args in
-    let all = all-listed sampleOrder (a .pattern .now) (at .loop .c) (omega arith) (omega arith) in
-    (at .loop .inv .2 ∙ ap length all, at .loop .inv .3 ∙ ap (λ (l : List ℕ). placed l (a .cuts .now)) all)
+    fronted-as (all-listed sampleOrder (a .pattern .now) (at .loop .c) (omega arith) (omega arith)) (at .loop .inv .2)
 
 pub list-spec : {M : Type 1} → statement M
 list-spec =
     tie.close
-    (tie.spec Inv-loop μ-loop loop-holds (λ c κs. omega arith) noted-requires (λ c. omega arith) (λ c. omega arith) loop-again same-length returns)
+    (tie.spec Inv-loop μ-loop loop-holds (λ c κs. omega arith) noted-requires (λ c. omega arith) (λ c. omega arith) loop-again (λ c. c .before .loop .inv .1) returns)

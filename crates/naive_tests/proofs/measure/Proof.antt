@@ -28,9 +28,6 @@ loop-again c =
     let a = at .before .before .before .args in
     (omega arith, simp length-set (omega arith), one-measured (a .table .now) (at .loop .lengths) (at .loop .r) (c .length-of .result) (omega arith) (at .loop .inv .2) (c .length-of .ensures))
 
-same-length : tie.Need-same-length Inv-loop μ-loop
-same-length c = c .before .loop .inv .1
-
 returns : tie.Need-returns Inv-loop μ-loop
 returns c =
     let at = c .before in
@@ -40,4 +37,4 @@ returns c =
 pub measure-spec : {M : Type 1} → statement M
 measure-spec =
     tie.close
-    (tie.spec Inv-loop μ-loop loop-holds length-of-requires (λ c. omega arith) (λ c. search needs) (λ c. omega arith) (λ c. omega arith) loop-again same-length returns)
+    (tie.spec Inv-loop μ-loop loop-holds length-of-requires (λ c. omega arith) (λ c. search needs) (λ c. omega arith) (λ c. omega arith) loop-again (λ c. c .before .loop .inv .1) returns)

@@ -1,12 +1,10 @@
 -- `copy` places one slice at the front of another. The invariant: the words passed stand there.
-use mathlib.Core.Path.{_≡_, sym, _∙_, refl, ap}
-use mathlib.Core.List.{List}
-use Prim.Native.Nat.{ℕ, _≤_, _-_}
+use mathlib.Core.Path.{_≡_, sym, _∙_, refl}
+use Prim.Native.Nat.{_≤_, _-_}
 use native.Mathlib.Omega.{arith}
 use lib.ListN.{length, take, getD, length-set}
-use lib.Seq.{take-length}
 use Rattle.definitions.specs.Words.{placed}
-use Rattle.slices.proofs.Fronts.{taken-more}
+use Rattle.slices.proofs.Fronts.{taken-more, taken-all}
 use Rattle.lists.specs.Lists.{placed-none}
 use Rattle.slices.proofs.copy.Statement.{statement}
 use Rattle.slices.proofs.copy.Tie as tie
@@ -29,18 +27,14 @@ loop-again c =
       taken-more (a .from .now) (a .to .now) (at .loop .to) (at .loop .i) (omega arith) (omega arith) (at .loop .inv .2),
     )
 
-same-length : tie.Need-same-length Inv-loop μ-loop
-same-length c = c .before .loop .inv .1
-
 returns : tie.Need-returns Inv-loop μ-loop
 returns c =
     let at = c .before in
     let a = at .before .args in
-    let e : at .loop .i ≡ length (a .from .now) = omega arith in
-    at .loop .inv .2 ∙ ap (λ (n : ℕ). placed (take n (a .from .now)) (a .to .now)) e ∙ ap (λ (l : List ℕ). placed l (a .to .now)) (take-length (a .from .now))
+    taken-all (a .from .now) (a .to .now) (at .loop .to) (at .loop .i) (omega arith) (at .loop .inv .2)
 
 pub copy-spec : {M : Type 1} → statement M
 copy-spec =
     tie.close
     (tie.spec Inv-loop μ-loop loop-holds (λ c. omega arith) (λ c. omega arith) (λ c. omega arith) (λ c. omega arith) (λ c. omega arith)
-    (λ c. omega arith) loop-again same-length returns)
+    (λ c. omega arith) loop-again (λ c. c .before .loop .inv .1) returns)
