@@ -1,8 +1,8 @@
 -- Comparing two strings symbol by symbol: they are the same where the symbols passed agree and the rest is the same; and part by part.
-use mathlib.Core.Path.{_≡_, refl, sym, _∙_, ap, ap₂}
+use mathlib.Core.Path.{_≡_, refl, sym, _∙_, ap, ap₂, subst}
 use mathlib.Core.Bool.{Bool, true, false, _&&_}
 use mathlib.Core.List.{List, _++_}
-use Prim.Native.Nat.{ℕ, suc, _+_, _≤_, _<_}
+use Prim.Native.Nat.{ℕ, suc, _+_, _-_, _≤_, _<_}
 use native.Mathlib.Omega.{arith}
 use native.Mathlib.Nat.{le-of-eq}
 use native.Mathlib.Numerals.{add-one}
@@ -48,6 +48,12 @@ unequal x y n = not-so (same x y) (λ e. n (ap length (same-eq x y e)))
 module _ (x y : List ℕ) where
   pub part-unequal : (o n : ℕ) → same (take n (drop o x)) (take n (drop o y)) ≡ false → same x y ≡ false
   part-unequal o n e = not-so (same x y) (λ q. contra (eq-same (take n (drop o x)) (take n (drop o y)) (ap (λ (z : List ℕ). take n (drop o z)) (same-eq x y q))) e)
+
+  -- k symbols from o on, as code takes them, found the same
+  pub block-equal : (o k : ℕ) {b : Bool} → b ≡ same (take (o + k - o) (drop o x)) (take (o + k - o) (drop o y)) → b ≡ true → take k (drop o x) ≡ take k (drop o y)
+  block-equal o k e f =
+      let n : o + k - o ≡ k = omega arith in
+      subst (λ (m : ℕ). take m (drop o x) ≡ take m (drop o y)) n (same-eq (take (o + k - o) (drop o x)) (take (o + k - o) (drop o y)) (sym e ∙ f))
 
   -- the first i symbols are the same, and n from o on, which is among them
   pub parts-equal : (i o n : ℕ) → o ≤ i → take i x ≡ take i y → take n (drop o x) ≡ take n (drop o y) → take (o + n) x ≡ take (o + n) y

@@ -2,9 +2,9 @@
 use mathlib.Core.Path.{_≡_, refl, sym, ap₂}
 use mathlib.Core.Bool.{Bool, true, false≢true, _&&_}
 use mathlib.Core.List.{List, [], _∷_, _++_}
-use Prim.Native.Nat.{ℕ, _≤_}
+use Prim.Native.Nat.{ℕ, zero, suc, _≤_, _<_}
 use native.Mathlib.Omega.{arith}
-use lib.ListN.{length, take}
+use lib.ListN.{length, take, getD}
 use lib.Dec.{eqb}
 use borrow.Author.Tests.{eqb-true, eq-eqb}
 use Rattle.definitions.specs.Words.{same, begins}
@@ -49,3 +49,23 @@ unfolding same begins
 front-begins [] s h = refl
 front-begins (a ∷ p) [] h = absurd (omega arith)
 front-begins (a ∷ p) (b ∷ s) h = ap₂ {C = Bool} (λ x y. x && y) (bool-ext (eqb b a) (eqb a b) (λ e. eq-eqb a b (sym (eqb-true b a e))) (λ e. eq-eqb b a (sym (eqb-true a b e)))) (front-begins p s (omega arith))
+
+-- a string begins another exactly when it is not longer and each of its entries stands there
+pub begins-entries : (u v : List ℕ) → begins u v ≡ true → (length u ≤ length v) × ((j : ℕ) → j < length u → getD v j 0 ≡ getD u j 0)
+unfolding begins
+begins-entries [] v e = (omega arith, λ j h. absurd (omega arith))
+begins-entries (a ∷ u) [] e = absurd (false≢true e)
+begins-entries (a ∷ u) (b ∷ v) e =
+    let (l, f) = begins-entries u v (and-right (eqb a b) (begins u v) e) in
+    (omega arith, λ j. entry j f)
+  where
+    entry : (j : ℕ) → ((j : ℕ) → j < length u → getD v j 0 ≡ getD u j 0) → j < length (a ∷ u) → getD (b ∷ v) j 0 ≡ getD (a ∷ u) j 0
+    entry zero f h = sym (eqb-true a b (and-left (eqb a b) (begins u v) e))
+    entry (suc j) f h = f j (omega arith)
+
+pub entries-begin : (u v : List ℕ) → length u ≤ length v → ((j : ℕ) → j < length u → getD v j 0 ≡ getD u j 0) → begins u v ≡ true
+unfolding begins
+entries-begin [] v l f = refl
+entries-begin (a ∷ u) [] l f = absurd (omega arith)
+entries-begin (a ∷ u) (b ∷ v) l f =
+    and-intro (eqb a b) (begins u v) (eq-eqb a b (sym (f 0 (omega arith)))) (entries-begin u v (omega arith) (λ j h. f (suc j) (omega arith)))

@@ -2,15 +2,12 @@
 -- sample of what is stored (`finds-are`), and its finds are the positions from which the same steps follow (`follows`). They do not change when one number is
 -- added, modulo 256, to every sample of the drive or of the pattern (`drive-moved`, `pattern-moved`).
 use mathlib.Core.Path.{_≡_, refl, sym, _∙_, ap, ap₂}
-use mathlib.Core.Bool.{true, false≢true}
 use mathlib.Core.Logic.{⊎-elim, _↔_}
 use mathlib.Core.List.{List, [], _∷_, map, List·Memᴰ as In, List·Memᴰ·head as here, List·Memᴰ·tail as there, List·Memᴰ·cases-cons as in-cons, List·Memᴰ·not-nil as in-nil}
 use Prim.Native.Nat.{ℕ, zero, suc, _+_, _-_, _%_, _≤_, _<_}
 use native.Mathlib.Omega.{arith}
 use lib.ListN.{length, drop, getD, length-map, length-drop}
 use lib.Seq.{getD-drop}
-use lib.Dec.{eqb}
-use borrow.Author.Tests.{eqb-true, eq-eqb}
 use Rattle.definitions.specs.declared.Order.{Order}
 use Rattle.definitions.specs.declared.Content.{Content}
 use Rattle.definitions.specs.declared.Content.the-variants.{Samples, Steps}
@@ -19,9 +16,9 @@ use Rattle.definitions.specs.Table.{textOf}
 use Rattle.definitions.specs.Occurrences.{occurrences}
 use Rattle.definitions.specs.Steps.{step, stepsOf, toSteps, samplesFrom, fromSteps, stepFinds, searched, finds}
 use Rattle.definitions.specs.Services.{patternChecks, searchChecks, countService, locateService}
-use Rattle.lists.specs.Bools.{and-left, and-right, and-intro}
 use Rattle.lists.specs.Numbers.{Rising, below-ext, below-in, below-lt, below-rising}
 use Rattle.lists.specs.Members.{at-in, in-map, drop-map, in-drop}
+use Rattle.lists.specs.Strings.{begins-entries, entries-begin}
 use Rattle.lyndon.specs.Ranks.{Bytes}
 use Rattle.lyndon.specs.Occurrences.{longer-nowhere}
 
@@ -213,26 +210,6 @@ samples-from-zero (a ∷ y) h =
     let l = h a (here refl) in
     let e : (0 + a) % 256 ≡ a = omega arith in
     ap (λ (b : ℕ). b ∷ samplesFrom b y) e
-
--- a string begins another exactly when it is not longer and each of its entries stands there
-begins-entries : (u v : List ℕ) → begins u v ≡ true → (length u ≤ length v) × ((j : ℕ) → j < length u → getD v j 0 ≡ getD u j 0)
-unfolding begins
-begins-entries [] v e = (omega arith, λ j h. absurd (omega arith))
-begins-entries (a ∷ u) [] e = absurd (false≢true e)
-begins-entries (a ∷ u) (b ∷ v) e =
-    let (l, f) = begins-entries u v (and-right (eqb a b) (begins u v) e) in
-    (omega arith, λ j. entry j f)
-  where
-    entry : (j : ℕ) → ((j : ℕ) → j < length u → getD v j 0 ≡ getD u j 0) → j < length (a ∷ u) → getD (b ∷ v) j 0 ≡ getD (a ∷ u) j 0
-    entry zero f h = sym (eqb-true a b (and-left (eqb a b) (begins u v) e))
-    entry (suc j) f h = f j (omega arith)
-
-entries-begin : (u v : List ℕ) → length u ≤ length v → ((j : ℕ) → j < length u → getD v j 0 ≡ getD u j 0) → begins u v ≡ true
-unfolding begins
-entries-begin [] v l f = refl
-entries-begin (a ∷ u) [] l f = absurd (omega arith)
-entries-begin (a ∷ u) (b ∷ v) l f =
-    and-intro (eqb a b) (begins u v) (eq-eqb a b (sym (f 0 (omega arith)))) (entries-begin u v (omega arith) (λ j h. f (suc j) (omega arith)))
 
 pub steps-size : (x : List ℕ) → length (stepsOf x) ≡ length x - 1
 unfolding stepsOf

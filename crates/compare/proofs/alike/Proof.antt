@@ -1,11 +1,11 @@
 -- `alike` goes block by block. The invariant: the blocks passed agree, so what is left decides.
-use mathlib.Core.Path.{_≡_, refl, sym, _∙_, ap}
+use mathlib.Core.Path.{_≡_, refl, _∙_, ap}
 use Prim.Native.Nat.{ℕ, _+_, _-_, _*_, _≤_}
 use native.Mathlib.Omega.{arith}
-use lib.ListN.{drop, take, length-drop, length-take}
+use lib.ListN.{drop, length-drop, length-take}
 use borrow.Author.Tests.{not-false}
 use Rattle.definitions.specs.Words.{lexlt}
-use Rattle.lists.specs.Strings.{same-eq}
+use Rattle.lists.specs.Sameness.{block-equal}
 use Rattle.compare.proofs.Compare.{agree-block}
 use Rattle.compare.proofs.alike.Statement.{statement}
 use Rattle.compare.proofs.alike.Tie as tie
@@ -24,10 +24,9 @@ loop-again c =
     let x = a .x .now in
     let y = a .y .now in
     let i = at .loop .i in
-    let n = 8 * i + 8 - 8 * i in
-    let next : 8 * i + n ≡ 8 * (i + 1) = omega arith in
-    let same = same-eq (take n (drop (8 * i) x)) (take n (drop (8 * i) y)) (sym (q .equal-many .ensures) ∙ not-false (q .equal-many .result) (c .if1 .left)) in
-    (omega arith, at .loop .inv .1 ∙ agree-block x y (8 * i) n (omega arith) (omega arith) same ∙ ap (λ (k : ℕ). lexlt (drop k x) (drop k y)) next)
+    let same = block-equal x y (8 * i) 8 (q .equal-many .ensures) (not-false (q .equal-many .result) (c .if1 .left)) in
+    let next : 8 * i + 8 ≡ 8 * (i + 1) = omega arith in
+    (omega arith, at .loop .inv .1 ∙ agree-block x y (8 * i) 8 (omega arith) (omega arith) same ∙ ap (λ (k : ℕ). lexlt (drop k x) (drop k y)) next)
 
 equal-many-requires : tie.Need-equal-many-requires Inv-loop μ-loop
 equal-many-requires c κs = simp (length-take, length-drop, length-take, length-drop) (omega arith)

@@ -4,8 +4,7 @@ use Prim.Native.Nat.{ℕ, _+_, _-_, _*_, _/_, _≤_}
 use native.Mathlib.Omega.{arith}
 use lib.ListN.{length, take, drop, length-take, length-drop}
 use borrow.Author.Tests.{not-true, not-false}
-use Rattle.lists.specs.Sameness.{part-unequal, parts-equal, last-decides}
-use Rattle.lists.specs.Strings.{same-eq}
+use Rattle.lists.specs.Sameness.{part-unequal, block-equal, parts-equal, last-decides}
 use Rattle.equality.proofs.equal_by_sixteen.Statement.{statement}
 use Rattle.equality.proofs.equal_by_sixteen.Tie as tie
 
@@ -34,15 +33,14 @@ loop-again c =
     let x = a .x .now in
     let y = a .y .now in
     let i = at .loop .i in
-    let n = 16 * i + 16 - 16 * i in
-    let next : 16 * i + n ≡ 16 * (i + 1) = omega arith in
-    let block = same-eq (take n (drop (16 * i) x)) (take n (drop (16 * i) y)) (sym (q .equal-many .ensures) ∙ not-false (q .equal-many .result) (c .if1 .left)) in (
+    let block = block-equal x y (16 * i) 16 (q .equal-many .ensures) (not-false (q .equal-many .result) (c .if1 .left)) in
+    let next : 16 * i + 16 ≡ 16 * (i + 1) = omega arith in (
       refl,
       at .loop .inv .1,
       at .loop .inv .2,
       refl,
       omega arith,
-      subst (λ (k : ℕ). take k x ≡ take k y) next (parts-equal x y (16 * i) (16 * i) n (omega arith) (at .loop .inv .5) block),
+      subst (λ (k : ℕ). take k x ≡ take k y) next (parts-equal x y (16 * i) (16 * i) 16 (omega arith) (at .loop .inv .5) block),
     )
 
 equal-many-requires-2 : tie.Need-equal-many-requires-2 Inv-loop μ-loop
