@@ -1,4 +1,4 @@
--- `all_agree` stays in the drive.
+-- `all_agree` stays in the drive and in the lengths.
 use Prim.Native.Nat.{_≤_, _-_}
 use native.Mathlib.Omega.{arith}
 use lib.ListN.{length}
@@ -6,13 +6,13 @@ use Rattle.trials.proofs.all_agree.Statement.{statement}
 use Rattle.trials.proofs.all_agree.Tie as tie
 
 abbrev Inv-loop : tie.InvT-loop
-Inv-loop lengths table drive i₀ i = 0 ≤ i
+Inv-loop n lengths table drive i₀ i = length drive ≤ 63
 
 abbrev μ-loop : tie.MeasureT-loop
-μ-loop lengths table drive i₀ i = length drive - i
+μ-loop n lengths table drive i₀ i = length drive - i
 
 pub all-agree-spec : {M : Type 1} → statement M
 all-agree-spec =
     tie.close
-    (tie.spec Inv-loop μ-loop (λ c. omega arith) (λ c κs. tt) (λ c κs. tt) (λ c κs. tt) (λ c. tt) (λ c κs. omega arith) (λ c. tt)
+    (tie.spec Inv-loop μ-loop (λ c. tt) (λ c. omega arith) (λ c. omega arith) (λ c. omega arith) (λ c κs. tt) (λ c κs. omega arith) (λ c. tt)
     (λ c. omega arith) (λ c. omega arith) (λ c. omega arith) (λ c. tt))
