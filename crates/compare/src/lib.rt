@@ -52,7 +52,7 @@ fn smaller<'a>(x: &'a [u32], y: &'a [u32]) -> bool
     smaller_from(x, y, i, short)
 }
 
-// How many of the first blocks of eight symbols are passed: what follows them decides. The loop stops at the first that is not alike.
+// How many of the first blocks of eight symbols are passed, which is a matter of speed: what follows them decides. The loop stops at the first that is not alike.
 fn alike<'a>(x: &'a [u32], y: &'a [u32], blocks: usize) -> usize
     requires { ⌜ (8 * blocks ≤ length (now x)) × (8 * blocks ≤ length (now y)) ⌝ }
     ensures { λ r. ⌜ (r ≤ blocks) × (lexlt (now (x .entry)) (now (y .entry)) ≡ lexlt (drop (8 * r) (now (x .entry))) (drop (8 * r) (now (y .entry)))) ⌝ }

@@ -1,4 +1,4 @@
-// Reading a rule from the words of a table. Nothing else takes a rule out of them; `bad_words` judges the words alone.
+// Reading a rule from the words of a table. Nothing else takes a rule out of them; `bad_words` judges the words alone, and `twins` looks rules up by them.
 //
 // A rule is two words, each a kind and a number: a symbol's number and what stands beside the symbol, or the left and the right half of a pair.
 use layout::KIND;

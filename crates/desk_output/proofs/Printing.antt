@@ -1,4 +1,4 @@
--- Of an input above 2,048 bytes so many are read, and the same is printed (`read-enough`).
+-- Of an input of 2,048 bytes or more so many are read, and the same is printed (`read-enough`).
 use mathlib.Core.Path.{_≡_}
 use mathlib.Core.List.{List}
 use Prim.Native.Nat.{ℕ, _<_}

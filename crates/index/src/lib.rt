@@ -1,5 +1,6 @@
 // The services, each from the crate that has it: it checks what it is handed in the paper's order, and does its work or refuses with number and place.
-// What it answers and what every lent slice holds afterwards is given by its definition, from the inputs alone.
+// What it answers and what every lent slice holds afterwards is given by its definition (definitions/specs/Services.antt), from the inputs alone: the promise stands
+// with the function, in that crate.
 pub use building::build;
 pub use building::build_profile;
 pub use checking::check;

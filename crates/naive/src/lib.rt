@@ -1,6 +1,4 @@
-// A naive scanner, written apart from the library: the pattern is compared with the text at every place, sample by sample. The program
-// `trials` runs it beside the library's search, the naive Lyndon words of `naive_words` beside the Lyndon array, and the naive cuts of
-// `naive_cuts` beside the library's.
+// A naive scanner, written apart from the library: the pattern is compared with the text at every place, sample by sample.
 ghost use mathlib.Core.Path.{_≡_};
 ghost use mathlib.Core.Bool.{cond};
 ghost use mathlib.Core.List.{[], _∷_};

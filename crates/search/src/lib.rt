@@ -1,4 +1,4 @@
-// The occurrences of a pattern in the text that is loaded, counted by the rules of its table, from the first rule up; and the tests, at most n - m + 2
+// The occurrences of a pattern in the text that is loaded, counted by the rules of its table, from the first rule up; and the tests, at most n + 2 - m
 // for m samples among n. Equal samples cost most.
 use areas::is_shorter;
 use areas::length_of;

@@ -1,4 +1,4 @@
--- `copies` divides, unless nothing is left over.
+-- `copies` divides, unless less than a word is left over.
 use Prim.Native.Nat.{_<_}
 use native.Mathlib.Omega.{arith}
 use native.Mathlib.Nat.{div-eq-of-lt, div-le-self}

@@ -5,7 +5,6 @@ use native.Mathlib.Omega.{arith}
 use lib.ListN.{length}
 use Rattle.lyndon.specs.Stored.{rule-range}
 use Rattle.joins.specs.Joining.{longestTail}
-use Rattle.rule_finds.specs.Searching.{Counting}
 use Rattle.rule_finds.proofs.Counting.{Counted, counted-none, counted-turn, counted-end, few-tests, longest-kept}
 use Rattle.search.proofs.count_rules.Statement.{statement}
 use Rattle.search.proofs.count_rules.Tie as tie

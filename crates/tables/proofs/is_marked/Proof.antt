@@ -1,4 +1,4 @@
--- `is_marked` decides whether the first rank refuted is the mark. The loop's invariant: it is decided of the ranks passed.
+-- `is_marked` decides whether the first rank alone is the mark. The loop's invariant: it is decided of the ranks passed.
 use mathlib.Core.Path.{_≡_, subst}
 use Prim.Native.Nat.{ℕ, _-_, _≤_, _<_}
 use native.Mathlib.Omega.{arith}

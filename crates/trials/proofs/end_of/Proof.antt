@@ -1,4 +1,4 @@
--- `end_of` stays in the slice.
+-- `end_of` looks at byte after byte. The loop's invariant: its place is inside the slice, from i on.
 use Prim.Native.Nat.{_≤_, _-_}
 use native.Mathlib.Omega.{arith}
 use lib.ListN.{length}

@@ -1,4 +1,4 @@
--- `print_list` stays in the list.
+-- `print_list` prints entry after entry. The loop's invariant: at most n are printed.
 use Prim.Native.Nat.{_≤_, _-_}
 use native.Mathlib.Omega.{arith}
 use Rattle.trials.proofs.print_list.Statement.{statement}

@@ -1,4 +1,4 @@
--- `run` stays in the input.
+-- `run` tries line after line. The loop's invariant: at most one byte behind the input is passed.
 use Prim.Native.Nat.{_≤_, _-_}
 use native.Mathlib.Omega.{arith}
 use lib.ListN.{length}
