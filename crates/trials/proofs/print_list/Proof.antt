@@ -1,4 +1,4 @@
--- `print_list` prints entry after entry. The loop's invariant: at most n are printed.
+-- `print_list` prints entry after entry. The loop's invariant: n is at most 64, so that each entry is there.
 use Prim.Native.Nat.{_≤_, _-_}
 use native.Mathlib.Omega.{arith}
 use Rattle.trials.proofs.print_list.Statement.{statement}

@@ -1,4 +1,4 @@
--- `run` tries line after line. The loop's invariant: at most one byte behind the input is passed.
+-- `run` tries line after line. What is left of the input gets shorter; the loop needs no invariant.
 use Prim.Native.Nat.{_≤_, _-_}
 use native.Mathlib.Omega.{arith}
 use lib.ListN.{length}
