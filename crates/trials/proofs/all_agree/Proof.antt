@@ -1,4 +1,4 @@
--- `all_agree` goes over the positions of the drive. The loop's invariant: it is inside the drive.
+-- `all_agree` goes over the positions of the drive. The loop's invariant: the drive has at most 63 samples.
 use Prim.Native.Nat.{_≤_, _-_}
 use native.Mathlib.Omega.{arith}
 use lib.ListN.{length}
