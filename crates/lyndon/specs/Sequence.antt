@@ -191,7 +191,7 @@ order-half w h i l = go (visit-half [] (lyndonTree w) (tree-of w h .0) y has)
 -- ---- how many there are
 
 -- how many symbols below n stand alone among the strings
-ones : ℕ → List (List ℕ) → ℕ
+pub ones : ℕ → List (List ℕ) → ℕ
 ones n S = length (below (λ a. ltb (indexOf (a ∷ []) S) (length S)) n)
 
 ones-extend : (n : ℕ) (S T : List (List ℕ)) → Extends S T → ones n S ≤ ones n T
@@ -230,11 +230,15 @@ visit-size n S (node l r) s =
     let sum = length-append (word l) (word r) in
     omega arith
 
--- a word over n symbols has fewer strings than n and its length together
-pub order-size : (n : ℕ) (w : List ℕ) → Lyndon w → ((a : ℕ) → In a w → a < n) → length (order w) < n + length w
+-- of the strings of a word over n symbols at most n are one symbol, and fewer than its length are not
+pub order-apart : (n : ℕ) (w : List ℕ) → Lyndon w → ((a : ℕ) → In a w → a < n) → (ones n (order w) ≤ n) × (length (order w) < ones n (order w) + length w)
 unfolding order ones
-order-size n w h s =
+order-apart n w h s =
     let e = tree-of w h .1 in
     let size = visit-size n [] (lyndonTree w) (rw e s) in
     let most = below-length (λ a. ltb (indexOf (a ∷ []) (order w)) (length (order w))) n in
-    omega (arith, size, ap length e)
+    (omega (arith, most), omega (arith, size, ap length e))
+
+-- together fewer than n and its length
+pub order-size : (n : ℕ) (w : List ℕ) → Lyndon w → ((a : ℕ) → In a w → a < n) → length (order w) < n + length w
+order-size n w h s = omega (arith, order-apart n w h s)

@@ -5,7 +5,7 @@ use mathlib.Core.Path.{_≡_, refl, sym, _∙_, ap, subst}
 use mathlib.Core.Bool.{Bool, true, false, not, _&&_}
 use mathlib.Core.Logic.{_↔_}
 use mathlib.Core.List.{List, _++_, map, List·Memᴰ as In, Memᴰ·append-left as in-left, Memᴰ·append-right as in-right}
-use Prim.Native.Nat.{ℕ, _*_, _%_, _≤_, _<_}
+use Prim.Native.Nat.{ℕ, _+_, _*_, _%_, _≤_, _<_}
 use native.Mathlib.Omega.{arith}
 use lib.ListN.{length, drop, getD}
 use lib.Dec.{leb}
@@ -18,7 +18,7 @@ use Rattle.definitions.specs.Services.{tableLength, hasBadWord, notATable}
 use Rattle.lists.specs.Bools.{and-left, and-right, and-intro}
 use Rattle.lists.specs.Strings.{same-eq, same-self}
 use Rattle.lyndon.specs.Numbering.{order-numbered}
-use Rattle.lyndon.specs.Sequence.{order-all, order-filled, order-root, order-size}
+use Rattle.lyndon.specs.Sequence.{order-all, order-filled, order-root, ones, order-apart, order-size}
 use Rattle.lyndon.specs.Rules.{rulesFor, rules-length}
 use Rattle.lyndon.specs.Ranks.{Bytes, drive-is, is-drive, bytes-back, marked-lyndon, marked-symbols, marked-length}
 use Rattle.lyndon.specs.Encoding.{beside, word-number, words-length}
@@ -40,6 +40,12 @@ module _ (o : Order) (text : List ℕ) (chair : ℕ) (ok : Stored text chair) wh
         marked-length o text,
         ok .short,
       )
+
+  -- at most 257 are one symbol, and at most 2,047 are not
+  pub symbols-pairs : (ones 257 (order (marked o text)) ≤ 257) × (length (order (marked o text)) ≤ ones 257 (order (marked o text)) + 2047)
+  symbols-pairs =
+      let apart = order-apart 257 (marked o text) (marked-lyndon o text (ok .bytes)) (marked-symbols o text (ok .bytes)) in
+      (apart .0, omega (arith, apart .1, marked-length o text, ok .short))
 
   pub storable : Storable (order (marked o text)) chair
   storable =
