@@ -25,15 +25,15 @@ pub fn text_fits(text: &[u8]) -> Answer
 pub fn pattern_fits(pattern: &[u8]) -> Answer
     ensures { λ r. ⌜ r ≡ answered (patternChecks (now (pattern .entry))) (length (now (pattern .entry))) ⌝ }
 {
-    let a = is_filled(pattern);
+    let a = samples_fit(pattern);
     let Answer::Done(_) = a else {
         return a;
     };
-    is_short(pattern)
+    size_fits(pattern)
 }
 
 // Refusal 2, or the number of samples.
-fn is_filled(pattern: &[u8]) -> Answer
+fn samples_fit(pattern: &[u8]) -> Answer
     ensures { λ r. ⌜ r ≡ checked (patternEmpty (now (pattern .entry))) (length (now (pattern .entry))) ⌝ }
 {
     if pattern.len() == 0 {
@@ -44,7 +44,7 @@ fn is_filled(pattern: &[u8]) -> Answer
 }
 
 // Refusal 3, or the number of samples.
-fn is_short(pattern: &[u8]) -> Answer
+fn size_fits(pattern: &[u8]) -> Answer
     ensures { λ r. ⌜ r ≡ checked (patternTooLong (now (pattern .entry))) (length (now (pattern .entry))) ⌝ }
 {
     if 2047 < pattern.len() {
@@ -65,11 +65,11 @@ pub fn search_fits(content: Content, pattern: &[u8]) -> Answer
     let Content::Steps = content else {
         return a;
     };
-    has_step(pattern)
+    steps_fit(pattern)
 }
 
 // Refusal 10, or the number of samples.
-fn has_step(pattern: &[u8]) -> Answer
+fn steps_fit(pattern: &[u8]) -> Answer
     ensures { λ r. ⌜ r ≡ checked (noStep (now (pattern .entry))) (length (now (pattern .entry))) ⌝ }
 {
     if pattern.len() == 1 {

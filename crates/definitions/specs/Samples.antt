@@ -324,7 +324,7 @@ samples =
     ∷ ends (buildService sampleOrder abab 40 room (replicate 11 7)) 9 12 0 0
     ∷ ends (checkService sampleOrder ofAbab room) 0 0 6 0
     ∷ ends (checkService sampleOrder [] (drop 2 room)) 4 0 0 0
-    ∷ ends (checkService sampleOrder [] room) 5 0 0 0
+    ∷ ends (checkService sampleOrder [] (drop 1 room)) 5 0 0 0
     ∷ ends (checkService sampleOrder (0 ∷ []) room) 5 0 0 0
     ∷ ends (checkService sampleOrder (drop 1 ofAbab) room) 5 0 0 0
     ∷ ends (checkService sampleOrder (drop 3 ofAbab) room) 5 0 0 0

@@ -1,1 +1,1 @@
-// Laws of lists and slices that every proof needs, and of which check decides. They stand in specs/; there is no code.
+// Laws of lists, strings and slices that every proof needs, and of which check decides. They stand in specs/; there is no code.

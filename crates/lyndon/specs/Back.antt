@@ -49,7 +49,7 @@ unfolding checkService
 checked-built o t work k h e = passes o t .0 (passed-acceptable o t (length work) [] (subst Passed (sym (append-nil (tableChecks o t (length work)))) (done-passed (checkService o t work) e)))
 
 -- u is the table of a drive and a chair number: checking accepts it, and reading gives both back
-pub record Built (o : Order) (text : List ℕ) (chair : ℕ) (u : List ℕ) : Type 0 where
+pub record AsBuilt (o : Order) (text : List ℕ) (chair : ℕ) (u : List ℕ) : Type 0 where
   pub table : u ≡ tableOf o text chair
   pub checked : (work : List ℕ) → 16384 ≤ length work → outcome (checkService o u work) ≡ done (ruleCount u) 0
   pub read : (work : List ℕ) → 16384 ≤ length work → (result : List ℕ) → length text ≤ length result
@@ -58,7 +58,7 @@ pub record Built (o : Order) (text : List ℕ) (chair : ℕ) (u : List ℕ) : Ty
 -- of every call that serves and answers k, of bytes and a chair number that has two
 pub build-returned : (o : Order) (text : List ℕ) (chair : ℕ) (work result : List ℕ) (r : Answer) {work′ result′ : List ℕ} (k : ℕ) → Bytes text → chair < 65536
     → Serves (buildService o text chair work result) (Answers r) (work′ ∷ result′ ∷ []) → outcomeOf r ≡ done k 0
-    → (k ≡ length (tableOf o text chair)) × Built o text chair (take k result′)
+    → (k ≡ length (tableOf o text chair)) × AsBuilt o text chair (take k result′)
 unfolding buildService
 build-returned o text chair work result r {work′} {result′} k b c v e =
     let u = tableOf o text chair in
@@ -66,12 +66,12 @@ build-returned o text chair work result r {work′} {result′} k b c v e =
     let q : length u ≡ k = cc in
     let held : result′ ≡ placed u result = ap (λ (l : List (List ℕ)). getD l 1 []) slices in
     let front : take k result′ ≡ u = ap₂ {C = List ℕ} take (sym q) held ∙ placed-front u result in
-    (sym q, subst (Built o text chair) (sym front) (built (fits passed)))
+    (sym q, subst (AsBuilt o text chair) (sym front) (built (fits passed)))
   where
     fits : {rest : List Check} → Passed (textTooLong text ∷ rest) → length text ≤ 2047
     fits (more _ x _) = ltb-false 2047 (length text) x
 
-    built : length text ≤ 2047 → Built o text chair (tableOf o text chair)
+    built : length text ≤ 2047 → AsBuilt o text chair (tableOf o text chair)
     built short =
         let ok : Stored text chair = record { short = short; bytes = b; chairs = c } in
         record {

@@ -40,20 +40,20 @@ module _ {o : Order} {t work held : List ℕ} where
       absurd (omega arith)
 
 -- opened: none of its checks is met, and n rules are loaded
-pub record Begun (o : Order) (t work held : List ℕ) (n : ℕ) : Type 0 where
+pub record Succeeded (o : Order) (t work held : List ℕ) (n : ℕ) : Type 0 where
   pub passes : Passed (tableChecks o t (length work))
   pub loads : Opened o t work held
   pub rules : n ≡ rulesLoaded (ready loads)
 
 module _ {o : Order} {t work held : List ℕ} {n : ℕ} where
-  pub opening-done : {r : Answer} → Admitted o t work held r → r ≡ Done n → Begun o t work held n
+  pub opening-done : {r : Answer} → Admitted o t work held r → r ≡ Done n → Succeeded o t work held n
   unfolding ready
   opening-done (opened p x) q = record { passes = p; loads = x; rules = cc }
   opening-done (turned-down d first e) q =
       let z : _≡_ {A = ℕ} 0 1 = cc in
       absurd (omega arith)
 
-  module _ (x : Begun o t work held n) where
+  module _ (x : Succeeded o t work held n) where
     -- ready to be read, in the order that was asked for
     pub opened-ready : (h : Ready (take WORK held)) × (h .order ≡ o) × (n ≡ rulesLoaded h)
     unfolding ready

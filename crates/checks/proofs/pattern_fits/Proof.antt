@@ -11,7 +11,7 @@ unfolding firstMet patternChecks
 returns c =
     let f = c .before .before in
     let p = f .before .before .args .pattern .now in
-    let (q, e) = refused-met (patternEmpty p) (length p) (f .is-filled .ensures) (c .enum-told2 .given .1) in
+    let (q, e) = refused-met (patternEmpty p) (length p) (f .samples-fit .ensures) (c .enum-told2 .given .1) in
     rw q e
 
 returns-2 : tie.Need-returns-2
@@ -20,7 +20,7 @@ returns-2 c =
     let k = c .before in
     let f = k .before .before in
     let p = f .before .before .args .pattern .now in
-    rw (done-met (patternEmpty p) (length p) (f .is-filled .ensures) (k .enum-told .given .1) .0) (c .is-short .ensures)
+    rw (done-met (patternEmpty p) (length p) (f .samples-fit .ensures) (k .enum-told .given .1) .0) (c .size-fits .ensures)
 
 pub pattern-fits-spec : {M : Type 1} → statement M
 pattern-fits-spec =

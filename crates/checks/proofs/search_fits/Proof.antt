@@ -19,7 +19,7 @@ returns-3 : tie.Need-returns-3
 returns-3 c =
     let k = c .before .before .before in
     let f = k .before .before in
-    rw (c .before .enum-told3 .given .1) (search-steps (f .before .before .args .pattern .now) (f .pattern-fits .ensures) (k .enum-told .given .1) (c .has-step .ensures))
+    rw (c .before .enum-told3 .given .1) (search-steps (f .before .before .args .pattern .now) (f .pattern-fits .ensures) (k .enum-told .given .1) (c .steps-fit .ensures))
 
 pub search-fits-spec : {M : Type 1} → statement M
 search-fits-spec =

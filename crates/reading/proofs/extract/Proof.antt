@@ -4,7 +4,7 @@ use native.Mathlib.Omega.{arith}
 use borrow.Author.Needs.{needs}
 use Rattle.definitions.specs.Services.{sampleOrder, tableChecks, extractService}
 use Rattle.lists.specs.Serving.{answer-refuses}
-use Rattle.opening.proofs.Services.{ready, opening-refused, Begun, opening-done, opened-ready, opening-served}
+use Rattle.opening.proofs.Services.{ready, opening-refused, Succeeded, opening-done, opened-ready, opening-served}
 use Rattle.reading.proofs.extract.Statement.{statement}
 use Rattle.reading.proofs.extract.Tie as tie
 
@@ -15,25 +15,25 @@ returns c =
     opening-refused _ (m .admit .ensures) (c .enum-told .given .1) (answer-refuses (m .admit .result)) (λ d. refl)
 
 -- the table is opened
-begun : (k : tie.After-a) → let m = k .before .before .before .before in let a = m .before .before .before .before .before .args in
-    Begun sampleOrder (a .table .now) (a .work .now) (m .admit .last .1 .1 .0) (k .a .given .0 .0)
-begun k = opening-done (k .before .before .before .before .admit .ensures) (k .a .given .1)
+succeeded : (k : tie.After-a) → let m = k .before .before .before .before in let a = m .before .before .before .before .before .args in
+    Succeeded sampleOrder (a .table .now) (a .work .now) (m .admit .last .1 .1 .0) (k .a .given .0 .0)
+succeeded k = opening-done (k .before .before .before .before .admit .ensures) (k .a .given .1)
 
 part-deliver-part-end : tie.Need-part-deliver-part-end
-part-deliver-part-end c = omega (arith, begun (c .before .before) .loads .long)
+part-deliver-part-end c = omega (arith, succeeded (c .before .before) .loads .long)
 
 deliver-part-requires : tie.Need-deliver-part-requires
-deliver-part-requires c κs = opened-ready (begun (c .before .before .before .before))
+deliver-part-requires c κs = opened-ready (succeeded (c .before .before .before .before))
 
 clear-front-requires : tie.Need-clear-front-requires
-clear-front-requires c κs = begun (c .before .before .before .before .before .before .before .before) .loads .long
+clear-front-requires c κs = succeeded (c .before .before .before .before .before .before .before .before) .loads .long
 
 returns-2 : tie.Need-returns-2
 unfolding extractService tableChecks ready
 returns-2 c =
     let z = c .before .before in
     let b = z .before .before .before .before in
-    let x = begun (b .before .before .before .before .before) in
+    let x = succeeded (b .before .before .before .before .before) in
     opening-served x (refl, (refl, refl)) (z .clear-front .ensures) (b .deliver-part .ensures (ready (x .loads)) refl (x .rules))
 
 pub extract-spec : {M : Type 1} → statement M

@@ -14,7 +14,7 @@ use Rattle.lists.specs.Decisions.{Passed, none, done-all}
 use Rattle.lists.specs.Serving.{refused-front, served, passed}
 use Rattle.checks.proofs.Patterns.{search-keeps, passed-search}
 use Rattle.results.proofs.Answers.{tests-done, search-refuses}
-use Rattle.opening.proofs.Services.{ready, opened-table, opening-refused, Begun, opening-done, opened-ready, opening-lent}
+use Rattle.opening.proofs.Services.{ready, opened-table, opening-refused, Succeeded, opening-done, opened-ready, opening-lent}
 use Rattle.searching.proofs.count.Statement.{statement}
 use Rattle.searching.proofs.count.Tie as tie
 
@@ -40,12 +40,12 @@ returns-2 c =
     passed (accepted m) (opening-refused _ {others = []} (m .admit .ensures) (c .before .enum-told3 .given .1) (search-refuses (m .admit .result) (c .with-tests2 .result) (c .with-tests2 .ensures)) (λ d. refl))
 
 -- and the table opened
-begun : (k : tie.After-a) → let m = k .before .before .before .before in let a = m .before .before .before .before .before .before .before .before .args in
-    Begun sampleOrder (a .table .now) (a .work .now) (m .admit .last .1 .1 .0) (k .a .given .0 .0)
-begun k = opening-done (k .before .before .before .before .admit .ensures) (k .a .given .1)
+succeeded : (k : tie.After-a) → let m = k .before .before .before .before in let a = m .before .before .before .before .before .before .before .before .args in
+    Succeeded sampleOrder (a .table .now) (a .work .now) (m .admit .last .1 .1 .0) (k .a .given .0 .0)
+succeeded k = opening-done (k .before .before .before .before .admit .ensures) (k .a .given .1)
 
 part-count-loaded-end : tie.Need-part-count-loaded-end
-part-count-loaded-end c = omega (arith, begun (c .before) .loads .long)
+part-count-loaded-end c = omega (arith, succeeded (c .before) .loads .long)
 
 count-loaded-requires : tie.Need-count-loaded-requires
 count-loaded-requires c κs =
@@ -53,11 +53,11 @@ count-loaded-requires c κs =
     let m = k .before .before .before .before in
     let a = m .before .before .before .before .before .before .before .before .args in
     let (some, short) = passed-search (a .content) (a .pattern .now) (accepted m) in
-    let (loaded, ordered, size) = opened-ready (begun k) in
+    let (loaded, ordered, size) = opened-ready (succeeded k) in
     record { ready = loaded; ordered = ordered; size = size; filled = some; short = short }
 
 clear-front-requires : tie.Need-clear-front-requires
-clear-front-requires c κs = omega (arith, begun (c .before .before .before .before .before .before) .loads .long)
+clear-front-requires c κs = omega (arith, succeeded (c .before .before .before .before .before .before) .loads .long)
 
 returns-3 : tie.Need-returns-3
 unfolding countService outcomeOf tableChecks ready
@@ -67,7 +67,7 @@ returns-3 c =
     let k = b .before .before .before in
     let m = k .before .before .before .before in
     let a = m .before .before .before .before .before .before .before .before .args in
-    let x = begun k in
+    let x = succeeded k in
     let n = b .count-loaded .result in
     let found = b .count-loaded .ensures (ready (x .loads)) refl (x .rules) in
     let number = length (finds (a .content) (a .pattern .now) (textOf sampleOrder (a .table .now))) in

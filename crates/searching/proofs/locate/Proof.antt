@@ -13,7 +13,7 @@ use Rattle.lists.specs.Decisions.{Passed, done-all}
 use Rattle.lists.specs.Serving.{grouped, refused-front, passed}
 use Rattle.checks.proofs.Patterns.{search-keeps, passed-search}
 use Rattle.results.proofs.Answers.{search-refuses}
-use Rattle.opening.proofs.Services.{ready, opened-table, opening-refused, Begun, opening-done, opened-ready, opening-lent}
+use Rattle.opening.proofs.Services.{ready, opened-table, opening-refused, Succeeded, opening-done, opened-ready, opening-lent}
 use Rattle.searching.proofs.locate.Statement.{statement}
 use Rattle.searching.proofs.locate.Tie as tie
 
@@ -42,12 +42,12 @@ returns-2 c =
     (passed (accepted m) (opening-refused _ (m .admit .ensures) (c .before .enum-told3 .given .1) (search-refuses (m .admit .result) (c .with-tests2 .result) (c .with-tests2 .ensures)) (λ d. refl)))
 
 -- and the table opened
-begun : (k : tie.After-a) → let m = k .before .before .before .before in let a = m .before .before .before .before .before .before .before .before .before .args in
-    Begun sampleOrder (a .table .now) (a .work .now) (m .admit .last .1 .1 .0) (k .a .given .0 .0)
-begun k = opening-done (k .before .before .before .before .admit .ensures) (k .a .given .1)
+succeeded : (k : tie.After-a) → let m = k .before .before .before .before in let a = m .before .before .before .before .before .before .before .before .before .args in
+    Succeeded sampleOrder (a .table .now) (a .work .now) (m .admit .last .1 .1 .0) (k .a .given .0 .0)
+succeeded k = opening-done (k .before .before .before .before .admit .ensures) (k .a .given .1)
 
 part-locate-loaded-end : tie.Need-part-locate-loaded-end
-part-locate-loaded-end c = omega (arith, begun (c .before) .loads .long)
+part-locate-loaded-end c = omega (arith, succeeded (c .before) .loads .long)
 
 locate-loaded-requires : tie.Need-locate-loaded-requires
 locate-loaded-requires c κs =
@@ -55,11 +55,11 @@ locate-loaded-requires c κs =
     let m = k .before .before .before .before in
     let a = m .before .before .before .before .before .before .before .before .before .args in
     let (some, short) = passed-search (a .content) (a .pattern .now) (accepted m) in
-    let (loaded, ordered, size) = opened-ready (begun k) in
+    let (loaded, ordered, size) = opened-ready (succeeded k) in
     record { ready = loaded; ordered = ordered; size = size; filled = some; short = short }
 
 clear-front-requires : tie.Need-clear-front-requires
-clear-front-requires c κs = omega (arith, begun (c .before .before .before .before .before .before .before .before .before) .loads .long)
+clear-front-requires c κs = omega (arith, succeeded (c .before .before .before .before .before .before .before .before .before) .loads .long)
 
 returns-3 : tie.Need-returns-3
 unfolding locateService ready
@@ -70,7 +70,7 @@ returns-3 c =
     let m = k .before .before .before .before in
     let a = m .before .before .before .before .before .before .before .before .before .args in
     let p = a .pattern .now in
-    let x = begun k in
+    let x = succeeded k in
     grouped (searchChecks (a .content) p) _ _
     (passed (accepted m)
     (opening-lent x (refl, refl) (b .locate-loaded .last .1 .1 .1 .0) (b .locate-loaded .kept .1 .1 .1 .0) (z .clear-front .ensures)

@@ -1,9 +1,9 @@
--- `is_filled` answers its check.
+-- `samples_fit` answers its check.
 use native.Mathlib.Omega.{arith}
 use lib.ListN.{length}
 use borrow.Author.Tests.{eq-eqb, ne-eqb}
-use Rattle.checks.proofs.is_filled.Statement.{statement}
-use Rattle.checks.proofs.is_filled.Tie as tie
+use Rattle.checks.proofs.samples_fit.Statement.{statement}
+use Rattle.checks.proofs.samples_fit.Tie as tie
 
 returns : tie.Need-returns
 returns c = simp (eq-eqb (length (c .before .args .pattern .now)) 0 (omega arith))
@@ -11,5 +11,5 @@ returns c = simp (eq-eqb (length (c .before .args .pattern .now)) 0 (omega arith
 returns-2 : tie.Need-returns-2
 returns-2 c = simp (ne-eqb (length (c .before .args .pattern .now)) 0 (λ e. omega arith))
 
-pub is-filled-spec : {M : Type 1} → statement M
-is-filled-spec = tie.close (tie.spec returns returns-2)
+pub samples-fit-spec : {M : Type 1} → statement M
+samples-fit-spec = tie.close (tie.spec returns returns-2)
