@@ -129,8 +129,6 @@ pub data Sample : Type 0 where
   -- whether the work slice of words 7, which is lent first, is cleared, by its first word; its first word and those from 16,383 on
   clears : Service → Bool → Sample
   works : Service → List ℕ → Sample
-  -- the slice, cleared, has this as its first word and its words from 16,383 on
-  clearing : List ℕ → List ℕ → Sample
   -- the answer stands for this number, place and count
   answers : Answer → ℕ → ℕ → ℕ → Sample
   -- the same of an answer to reading, with the chair number
@@ -196,7 +194,6 @@ holds (ends s number place count beside) = same (parts (outcome s)) (number ∷ 
 holds (leaves s after) = same (last (slicesAfter s)) after
 holds (clears s b) = eqb (getD (getD (slicesAfter s) 0 []) 0 8) (cond b 0 7)
 holds (works s l) = same (edges (getD (slicesAfter s) 0 [])) l
-holds (clearing work l) = same (edges (cleared work)) l
 holds (answers r number place count) = same (parts (outcomeOf r)) (number ∷ place ∷ count ∷ 0 ∷ [])
 holds (reads r number place count chair) = same (parts (readOutcome r)) (number ∷ place ∷ count ∷ chair ∷ [])
 holds (searches o r tests) = let s = searchOf o in same (parts (outcomeOf (s .answer))) (parts (outcomeOf r)) && eqb (s .tests) tests
@@ -432,7 +429,6 @@ samples =
     ∷ leaves (cutsService sampleOrder (a ∷ a ∷ b ∷ a ∷ []) (replicate 3 7)) (1 ∷ 3 ∷ 7 ∷ [])
     ∷ leaves (cutsService sampleOrder (0 ∷ 255 ∷ 1 ∷ []) (replicate 2 7)) (1 ∷ 7 ∷ [])
     ∷ leaves (cutsService sampleOrder (a ∷ a ∷ a ∷ a ∷ []) (replicate 3 7)) (1 ∷ 3 ∷ 7 ∷ [])
-    ∷ clearing room (0 ∷ 0 ∷ 7 ∷ [])
     ∷ clears (checkService sampleOrder (drop 2 ofAbab) room) false
     ∷ clears (checkService sampleOrder [] room) false
     ∷ leaves (checkService sampleOrder ofAbab (7 ∷ [])) (7 ∷ [])
