@@ -4,6 +4,7 @@ pub mod Table
 pub mod Occurrences
 pub mod Steps
 pub mod Profile
+pub mod Census
 pub mod Services
 pub mod Replies
 pub mod Programs

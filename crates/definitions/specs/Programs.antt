@@ -1,14 +1,15 @@
--- What the programs print: decimal numbers, lines and refusals, and all that `motif` (document 01, "Samples from the desk") and `desk_report`
--- (document 02, S-7) print of their input. Input and output are lists of bytes.
+-- What the programs print: decimal numbers, lines and refusals, and all that `motif` (document 01, "Samples from the desk"), `desk_report` and
+-- `census_report` (document 02, S-7 and S-8) print of their input. Input and output are lists of bytes.
 use Prim.Native.Nat.{ℕ, zero, suc, _+_, _/_, _%_}
 use mathlib.Core.Bool.{false, cond}
 use mathlib.Core.List.{List, [], _∷_, _++_}
-use lib.ListN.{length, getD}
+use lib.ListN.{length, drop, getD}
 use lib.Dec.{ltb, eqb}
 use Rattle.definitions.specs.declared.Order.{Order}
 use Rattle.definitions.specs.Table.{tableOf, ruleCount}
 use Rattle.definitions.specs.Occurrences.{occurrences}
-use Rattle.definitions.specs.Services.{Check, check, firstMet, textTooLong, patternChecks, driveChecks}
+use Rattle.definitions.specs.Census.{censusRuns, countIn, censusCounts, total}
+use Rattle.definitions.specs.Services.{Check, check, firstMet, textTooLong, patternChecks, driveChecks, oddWindow}
 
 -- ---- numbers and lines
 
@@ -123,3 +124,30 @@ headingName b = getD headingNames b []
 -- all of the input is the drive; the name of each of its samples is printed
 unfoldable pub deskOutput : List ℕ → List ℕ
 deskOutput drive = printed (driveChecks drive) (linesOf headingName drive)
+
+-- ---- the program `census_report`
+
+-- the first byte of the input is q, and 0 where there is none; the drive is the rest
+unfoldable pub windowOf : List ℕ → ℕ
+windowOf input = getD input 0 0
+
+unfoldable pub censusDrive : List ℕ → List ℕ
+censusDrive input = drop 1 input
+
+-- numbers in decimal, with a space behind each
+unfoldable pub spaced : List ℕ → List ℕ
+spaced [] = []
+spaced (n ∷ l) = decimal n ++ (32 ∷ spaced l)
+
+-- a line for each run: its bytes, and how often it begins in the text
+unfoldable pub censusLines : List ℕ → List (List ℕ) → List ℕ
+censusLines text [] = []
+censusLines text (x ∷ runs) = named (spaced x) (countIn text x) ++ censusLines text runs
+
+-- a line for each run that is listed, and the sum of the counts
+unfoldable pub censusOutput : Order → List ℕ → List ℕ
+censusOutput o input =
+    let q = windowOf input in
+    let drive = censusDrive input in
+    printed (textTooLong drive ∷ oddWindow q ∷ [])
+    (censusLines drive (censusRuns o q drive) ++ line (decimal (total (censusCounts o q drive))))

@@ -1,7 +1,8 @@
 -- The samples of document 01 that are marked P, its live cuts, its two examples of a cut at a join, its table of `abab` for chair 40, tables that it says are
 -- foreign, some of its edges as outcomes of services, and what its program prints; the arrays of S-1; drives whose tables, cuts and lengths the order of S-2 changes; patterns
 -- with live cuts that S-3 does not list; and the tests of S-4, in `abab` those of a rule that stands twice in the tree and of one whose left half is the mark;
--- first differences of tails (S-5); drives rearranged to steps and searched by them (S-6); drives in the nine-heading profile and others, and what the desk report prints of them (S-7): by computation, under one claim.
+-- first differences of tails (S-5); drives rearranged to steps and searched by them (S-6); drives in the nine-heading profile and others, and what the desk report prints of them (S-7);
+-- and censuses of drives on both sides of 128, of drives shorter than the runs or just as long, and of equal samples, and what the census report prints (S-8): by computation, under one claim.
 use Prim.Native.Nat.{ℕ, _+_, _-_}
 use mathlib.Core.Path.{_≡_, refl}
 use mathlib.Core.Bool.{Bool, true, false, cond, not, _&&_}
@@ -19,9 +20,10 @@ use Rattle.definitions.specs.Table.{rankOf, byteOf, numberOfRank, rankOf
 use Rattle.definitions.specs.Occurrences.{occurrences, notGreaterAtDifference, isLive, liveCuts, wordAgain, isListed, listedCuts, patternCuts, straddles, straddling, cutIn, cutAt, fitsJoin, isTested, Test, testsOf, testsBelow, tests}
 use Rattle.definitions.specs.Steps.{step, stepsOf, toSteps, samplesFrom, fromSteps, stepFinds, searched, finds}
 use Rattle.definitions.specs.Profile.{onHeading, firstOff, atRest, isProfile}
-use Rattle.definitions.specs.Services.{Outcome, done, refused, readOutcome, searchOf, Service, firstMet, outcome, outcomeOf, cleared, slicesAfter, sampleOrder, formerOrder, tableChecks, patternChecks, searchChecks, profileChecks, driveChecks, buildService, checkService, buildProfileService, checkProfileService, readService, extractService, countService, locateService, cutsService, lyndonLengthService, lyndonArrayService, convertOrderService, toStepsService, fromStepsService}
+use Rattle.definitions.specs.Census.{runsOf, comesBefore, entered, distinct, censusRuns, countIn, censusCounts, joined, total}
+use Rattle.definitions.specs.Services.{Outcome, done, refused, readOutcome, searchOf, Service, firstMet, outcome, outcomeOf, cleared, slicesAfter, sampleOrder, formerOrder, tableChecks, patternChecks, searchChecks, profileChecks, driveChecks, buildService, checkService, buildProfileService, checkProfileService, readService, extractService, countService, locateService, cutsService, lyndonLengthService, lyndonArrayService, convertOrderService, toStepsService, fromStepsService, censusService}
 use Rattle.definitions.specs.Replies.{replyOf, searchReplyOf, contentOf}
-use Rattle.definitions.specs.Programs.{digits, digitsUpTo, digitCount, decimal, line, named, linesOf, refusedLine, printed, motifOf, driveOf, foundLines, motifOutput, headingName, deskOutput}
+use Rattle.definitions.specs.Programs.{digits, digitsUpTo, digitCount, decimal, line, named, linesOf, refusedLine, printed, motifOf, driveOf, foundLines, motifOutput, headingName, deskOutput, windowOf, censusDrive, spaced, censusLines, censusOutput}
 
 abbrev pub a : ℕ
 a = 97
@@ -110,6 +112,8 @@ pub data Sample : Type 0 where
   says : ℕ → Bool → Sample
   -- the lowest index of the drive that is off heading, and whether the drive is a profile drive
   profile : List ℕ → ℕ → Bool → Sample
+  -- the drive has just these runs of so many samples, one behind the other, with just these counts, and that many runs in all
+  census : List ℕ → ℕ → List ℕ → List ℕ → ℕ → Sample
   -- whether x is smaller than y; whether the string is a Lyndon word; the length of the longest that begins at the position of the string
   smaller : List ℕ → List ℕ → Bool → Sample
   isWord : List ℕ → Bool → Sample
@@ -124,8 +128,9 @@ pub data Sample : Type 0 where
   table : List ℕ → ℕ → List ℕ → Sample
   -- the service ends with this number, place and count, and this number beside the count
   ends : Service → ℕ → ℕ → ℕ → ℕ → Sample
-  -- the slice that is lent last holds this afterwards
+  -- the slice that is lent last holds this afterwards; the last but one
   leaves : Service → List ℕ → Sample
+  first : Service → List ℕ → Sample
   -- whether the work slice of words 7, which is lent first, is cleared, by its first word; its first word and those from 16,383 on
   clears : Service → Bool → Sample
   works : Service → List ℕ → Sample
@@ -143,6 +148,8 @@ pub data Sample : Type 0 where
   -- the input makes the program `motif` print this, or the program `desk_report`
   prints : List ℕ → List ℕ → Sample
   reports : List ℕ → List ℕ → Sample
+  -- or the program `census_report`
+  lists : List ℕ → List ℕ → Sample
 
 unfoldable pub last : List (List ℕ) → List ℕ
 last slices = getD slices (length slices - 1) []
@@ -183,6 +190,8 @@ holds (rearranged text l) = same (toSteps text) l && same (fromSteps l) text
 holds (follow text p places) = same (stepFinds p text) places && same (finds Steps p (toSteps text)) places
 holds (says form b) = eqb (length (searched (contentOf form) (a ∷ []))) (cond b 0 1)
 holds (profile text i b) = eqb (firstOff text) i && cond (isProfile text) b (not b)
+holds (census text q runs counts n) =
+    same (joined (censusRuns sampleOrder q text)) runs && (same (censusCounts sampleOrder q text) counts && eqb (total counts) n)
 holds (smaller x y b) = cond (lexlt x y) b (not b)
 holds (isWord w b) = cond (lyndon w) b (not b)
 holds (longest s i n) = eqb (lyndonLength s i) n
@@ -192,6 +201,7 @@ holds (ranks bytes l) = same (map (rankOf sampleOrder) bytes) l
 holds (table text chair t) = same (tableOf sampleOrder text chair) t
 holds (ends s number place count beside) = same (parts (outcome s)) (number ∷ place ∷ count ∷ beside ∷ [])
 holds (leaves s after) = same (last (slicesAfter s)) after
+holds (first s after) = same (getD (slicesAfter s) (length (slicesAfter s) - 2) []) after
 holds (clears s b) = eqb (getD (getD (slicesAfter s) 0 []) 0 8) (cond b 0 7)
 holds (works s l) = same (edges (getD (slicesAfter s) 0 [])) l
 holds (answers r number place count) = same (parts (outcomeOf r)) (number ∷ place ∷ count ∷ 0 ∷ [])
@@ -203,6 +213,7 @@ holds (found o number chair place count tests) =
 holds (spells n bytes) = same (decimal n) bytes
 holds (prints input output) = same (motifOutput sampleOrder input) output
 holds (reports input output) = same (deskOutput input) output
+holds (lists input output) = same (censusOutput sampleOrder input) output
 
 unfoldable pub all : List Sample → Bool
 all [] = true
@@ -300,6 +311,14 @@ samples =
     ∷ profile (128 ∷ 127 ∷ []) 0 false
     ∷ profile (1 ∷ 0 ∷ []) 2 false
     ∷ profile (0 ∷ 8 ∷ []) 2 false
+    ∷ census abab 2 (a ∷ b ∷ b ∷ a ∷ []) (2 ∷ 1 ∷ []) 3
+    ∷ census abab 1 (a ∷ b ∷ []) (2 ∷ 2 ∷ []) 4
+    ∷ census abab 4 abab (1 ∷ []) 1
+    ∷ census abab 5 [] [] 0
+    ∷ census [] 1 [] [] 0
+    ∷ census (a ∷ a ∷ a ∷ a ∷ []) 2 (a ∷ a ∷ []) (3 ∷ []) 3
+    ∷ census (1 ∷ 255 ∷ 128 ∷ 127 ∷ 255 ∷ []) 1 (128 ∷ 255 ∷ 1 ∷ 127 ∷ []) (1 ∷ 2 ∷ 1 ∷ 1 ∷ []) 5
+    ∷ census (1 ∷ 255 ∷ 1 ∷ 127 ∷ 0 ∷ 128 ∷ 0 ∷ []) 2 (128 ∷ 0 ∷ 255 ∷ 1 ∷ 0 ∷ 128 ∷ 1 ∷ 255 ∷ 1 ∷ 127 ∷ 127 ∷ 0 ∷ []) (1 ∷ 1 ∷ 1 ∷ 1 ∷ 1 ∷ 1 ∷ []) 6
     ∷ lengths abab (2 ∷ 1 ∷ 2 ∷ 1 ∷ [])
     ∷ lengths (a ∷ a ∷ b ∷ []) (3 ∷ 2 ∷ 1 ∷ [])
     ∷ lengths (a ∷ a ∷ a ∷ a ∷ []) (1 ∷ 1 ∷ 1 ∷ 1 ∷ [])
@@ -392,6 +411,18 @@ samples =
     ∷ ends (cutsService sampleOrder (a ∷ a ∷ b ∷ a ∷ []) (replicate 1 7)) 9 2 0 0
     ∷ ends (cutsService sampleOrder (a ∷ a ∷ b ∷ a ∷ []) (replicate 2 7)) 0 0 2 0
     ∷ ends (cutsService sampleOrder (a ∷ a ∷ a ∷ a ∷ []) (replicate 1 7)) 9 2 0 0
+    ∷ ends (censusService sampleOrder ofAbab 2 room (replicate 4 7) (replicate 2 7)) 0 0 2 0
+    ∷ ends (censusService sampleOrder ofAbab 2 room (replicate 3 7) (replicate 2 7)) 9 2 0 0
+    ∷ ends (censusService sampleOrder ofAbab 2 room (replicate 4 7) (replicate 1 7)) 9 2 0 0
+    ∷ ends (censusService sampleOrder ofAbab 5 room [] []) 0 0 0 0
+    ∷ ends (censusService sampleOrder ofAbab 8 room [] []) 0 0 0 0
+    ∷ ends (censusService sampleOrder ofAbab 9 room [] []) 13 0 0 0
+    ∷ ends (censusService sampleOrder ofAbab 0 room [] []) 13 0 0 0
+    ∷ ends (censusService sampleOrder [] 18446744073709551615 [] [] []) 13 0 0 0
+    ∷ ends (censusService sampleOrder [] 1 (drop 2 room) [] []) 4 0 0 0
+    ∷ ends (censusService sampleOrder [] 1 room [] []) 5 0 0 0
+    ∷ ends (censusService sampleOrder (drop 2 ofAbab) 1 room [] []) 6 5 0 0
+    ∷ ends (censusService sampleOrder twoRules 1 room [] []) 7 0 0 0
     ∷ ends (lyndonLengthService sampleOrder ofAbab 2 room) 0 0 2 0
     ∷ ends (lyndonLengthService sampleOrder ofAbab 3 room) 0 0 1 0
     ∷ ends (lyndonLengthService sampleOrder ofAbab 4 room) 8 0 0 0
@@ -429,6 +460,13 @@ samples =
     ∷ leaves (cutsService sampleOrder (a ∷ a ∷ b ∷ a ∷ []) (replicate 3 7)) (1 ∷ 3 ∷ 7 ∷ [])
     ∷ leaves (cutsService sampleOrder (0 ∷ 255 ∷ 1 ∷ []) (replicate 2 7)) (1 ∷ 7 ∷ [])
     ∷ leaves (cutsService sampleOrder (a ∷ a ∷ a ∷ a ∷ []) (replicate 3 7)) (1 ∷ 3 ∷ 7 ∷ [])
+    ∷ first (censusService sampleOrder ofAbab 2 room (replicate 5 7) (replicate 3 7)) (a ∷ b ∷ b ∷ a ∷ 7 ∷ [])
+    ∷ leaves (censusService sampleOrder ofAbab 2 room (replicate 5 7) (replicate 3 7)) (2 ∷ 1 ∷ 7 ∷ [])
+    ∷ first (censusService sampleOrder ofAbab 2 room (replicate 4 7) (replicate 1 7)) (replicate 4 7)
+    ∷ leaves (censusService sampleOrder ofAbab 2 room (replicate 3 7) (replicate 2 7)) (replicate 2 7)
+    ∷ clears (censusService sampleOrder ofAbab 9 room [] []) false
+    ∷ clears (censusService sampleOrder ofAbab 2 room [] []) true
+    ∷ clears (censusService sampleOrder ofAbab 2 (7 ∷ []) (8 ∷ []) (8 ∷ [])) false
     ∷ clears (checkService sampleOrder (drop 2 ofAbab) room) false
     ∷ clears (checkService sampleOrder [] room) false
     ∷ leaves (checkService sampleOrder ofAbab (7 ∷ [])) (7 ∷ [])
@@ -494,6 +532,13 @@ samples =
     ∷ reports (0 ∷ 1 ∷ []) (refusedWithTen 2)
     ∷ reports (1 ∷ 9 ∷ []) (refusedWithTen 1)
     ∷ reports (replicate 2048 9) (refusedWith 1)
+    ∷ lists (2 ∷ 255 ∷ 10 ∷ 255 ∷ 10 ∷ []) (50 ∷ 53 ∷ 53 ∷ 32 ∷ 49 ∷ 48 ∷ 32 ∷ 50 ∷ 10 ∷ 49 ∷ 48 ∷ 32 ∷ 50 ∷ 53 ∷ 53 ∷ 32 ∷ 49 ∷ 10 ∷ 51 ∷ 10 ∷ [])
+    ∷ lists (2 ∷ a ∷ []) (48 ∷ 10 ∷ [])
+    ∷ lists (8 ∷ []) (48 ∷ 10 ∷ [])
+    ∷ lists [] (refusedWithTen 3)
+    ∷ lists (9 ∷ a ∷ []) (refusedWithTen 3)
+    ∷ lists (9 ∷ replicate 2048 a) (refusedWith 1)
+    ∷ lists (9 ∷ replicate 2047 a) (refusedWithTen 3)
     ∷ ends (buildProfileService sampleOrder (replicate 2048 9) 40 [] []) 1 0 0 0
     ∷ ends (buildProfileService sampleOrder (replicate 2047 9) 40 [] []) 11 0 0 0
     ∷ ends (buildService sampleOrder (replicate 2048 a) 40 (drop 2 room) []) 1 0 0 0
@@ -514,5 +559,5 @@ samples =
 
 -- every sample holds
 pub samples-hold : all samples ≡ true
-unfolding edges holds all samples parts readOutcome searchOf replyOf searchReplyOf every below least placed same begins lexlt firstDifference lyndon cutOf greatest lyndonLength lyndonArray leftOf rightOf word split lyndonTree indexOf meet visit order ruleOf rulesOf rankOf byteOf numberOfRank rankOfNumber marked wordOf kindOf numberOf ruleWords words tableOf badFirst badSecond badWord stringOf strings ruleString isPair leftHalf rightHalf spelled textOf chairOf isDrive isChair isTable occurrences notGreaterAtDifference isLive liveCuts wordAgain isListed listedCuts patternCuts straddles straddling cutIn cutAt fitsJoin isTested testsOf testsBelow tests step stepsOf toSteps samplesFrom fromSteps stepFinds searched finds onHeading firstOff atRest isProfile flat firstMet outcome outcomeOf cleared slicesAfter last tableChecks patternChecks searchChecks profileChecks driveChecks buildService checkService buildProfileService checkProfileService readService extractService countService locateService cutsService lyndonLengthService lyndonArrayService convertOrderService toStepsService fromStepsService contentOf digits digitsUpTo digitCount decimal line named linesOf refusedLine printed motifOf driveOf foundLines motifOutput headingName deskOutput
+unfolding edges holds all samples parts readOutcome searchOf replyOf searchReplyOf every below least placed same begins lexlt firstDifference lyndon cutOf greatest lyndonLength lyndonArray leftOf rightOf word split lyndonTree indexOf meet visit order ruleOf rulesOf rankOf byteOf numberOfRank rankOfNumber marked wordOf kindOf numberOf ruleWords words tableOf badFirst badSecond badWord stringOf strings ruleString isPair leftHalf rightHalf spelled textOf chairOf isDrive isChair isTable occurrences notGreaterAtDifference isLive liveCuts wordAgain isListed listedCuts patternCuts straddles straddling cutIn cutAt fitsJoin isTested testsOf testsBelow tests step stepsOf toSteps samplesFrom fromSteps stepFinds searched finds onHeading firstOff atRest isProfile runsOf comesBefore entered distinct censusRuns countIn censusCounts joined total flat firstMet outcome outcomeOf cleared slicesAfter last tableChecks patternChecks searchChecks profileChecks driveChecks buildService checkService buildProfileService checkProfileService readService extractService countService locateService cutsService lyndonLengthService lyndonArrayService convertOrderService toStepsService fromStepsService censusService contentOf digits digitsUpTo digitCount decimal line named linesOf refusedLine printed motifOf driveOf foundLines motifOutput headingName deskOutput windowOf censusDrive spaced censusLines censusOutput
 samples-hold = refl

@@ -1,6 +1,6 @@
--- What each service answers and leaves in the slices lent to it (document 01, "When a request is turned down"; document 02, S-1 to S-7).
+-- What each service answers and leaves in the slices lent to it (document 01, "When a request is turned down"; document 02, S-1 to S-8).
 -- A service's checks are an ordered list; the first that is met decides number, place and what becomes of each lent slice.
-use Prim.Native.Nat.{ℕ, _+_, _%_}
+use Prim.Native.Nat.{ℕ, _+_, _*_, _%_}
 use mathlib.Core.Bool.{Bool, true, false, cond, not, _||_}
 use mathlib.Core.Path.{_≡_}
 use mathlib.Core.List.{List, [], _∷_, _++_, map}
@@ -20,6 +20,7 @@ use Rattle.definitions.specs.Table.{rankOf, tableOf, badWord, isTable, t
 use Rattle.definitions.specs.Occurrences.{patternCuts, tests}
 use Rattle.definitions.specs.Steps.{toSteps, fromSteps, searched, finds}
 use Rattle.definitions.specs.Profile.{firstOff, atRest}
+use Rattle.definitions.specs.Census.{censusRuns, censusCounts, joined}
 
 -- ---- outcomes
 
@@ -129,6 +130,10 @@ offHeading clears text = let i = firstOff text in check (ltb i (length text)) 11
 abbrev pub notAtRest : Bool → List ℕ → Check
 notAtRest clears text = check (not (atRest text)) 12 0 clears
 
+-- of a census of runs of q samples
+abbrev pub oddWindow : ℕ → Check
+oddWindow q = check (ltb q 1 || ltb 8 q) 13 0 false
+
 -- of a work slice of n words
 abbrev pub workTooShort : ℕ → Check
 workTooShort n = check (ltb n 16384) 4 0 false
@@ -150,6 +155,10 @@ rangePastEnd n start count = check (ltb n (start + count)) 8 0 true
 -- of a result slice of n entries
 abbrev pub resultTooShort : ℕ → ℕ → Check
 resultTooShort needed n = check (ltb n needed) 9 needed true
+
+-- of two result slices: so many runs of q bytes each for the one, an entry a run for the other
+abbrev pub runsTooShort : ℕ → ℕ → ℕ → ℕ → Check
+runsTooShort q needed bytes entries = check (ltb bytes (q * needed) || ltb entries needed) 9 needed true
 
 -- ---- the services: t is a table, work and result are what the lent slices hold before
 
@@ -252,3 +261,14 @@ toStepsService text result = writes (textTooLong text ∷ []) (toSteps text) 0 r
 
 unfoldable pub fromStepsService : List ℕ → List ℕ → Service
 fromStepsService text result = writes (textTooLong text ∷ []) (fromSteps text) 0 result
+
+-- a census of the runs of q samples: the runs one behind the other in one slice, their counts in another
+unfoldable pub censusService : Order → List ℕ → ℕ → List ℕ → List ℕ → List ℕ → Service
+censusService o t q work runs counts =
+    let listed = censusRuns o q (textOf o t) in
+    working work
+    (record {
+      checks = (oddWindow q ∷ tableChecks o t (length work)) ++ (runsTooShort q (length listed) (length runs) (length counts) ∷ []);
+      success = done (length listed) 0;
+      lent = resultSlice (joined listed) runs ∷ resultSlice (censusCounts o q (textOf o t)) counts ∷ [];
+    })
