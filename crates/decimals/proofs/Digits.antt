@@ -1,16 +1,14 @@
 -- How many digits a number has, how long its line is, and how it is written: digits from the last to the first, then the end of the line.
 use mathlib.Core.Path.{_≡_, refl, sym, _∙_, ap}
 use mathlib.Core.Bool.{Bool, true, false, cond}
-use mathlib.Core.List.{List, [], _∷_, _++_, append-assoc}
+use mathlib.Core.List.{List, [], _∷_, _++_}
 use Prim.Native.Nat.{ℕ, zero, suc, _+_, _-_, _/_, _%_, _≤_, _<_}
 use native.Mathlib.Omega.{arith}
-use native.Mathlib.Numerals.{add-one}
-use lib.ListN.{length, take, drop, set, length-append}
-use lib.Seq.{drop-at, set-split, length-take-le}
+use lib.ListN.{length, set, length-append}
 use lib.Dec.{ltb}
 use borrow.Author.Tests.{lt-ltb, le-ltb}
 use Rattle.definitions.specs.Words.{placed}
-use Rattle.lists.specs.Lists.{placed-none, placed-more}
+use Rattle.lists.specs.Lists.{placed-none, placed-more, placed-last}
 use Rattle.definitions.specs.Programs.{digits, digitsUpTo, digitCount, decimal, line}
 
 -- ---- lengths
@@ -64,17 +62,6 @@ pub line-most : (n : ℕ) → length (line (decimal n)) ≤ 11
 line-most n = omega (arith, line-length n, count-range n .1)
 
 -- ---- digits from the last to the first
-
--- one entry more behind a front may be stored before the front is written
-placed-last : (l old : List ℕ) (x : ℕ) → length l < length old → placed (l ++ (x ∷ [])) old ≡ placed l (set old (length l) x)
-unfolding placed
-placed-last l old x h =
-    let one : length (l ++ (x ∷ [])) ≡ suc (length l) = length-append l (x ∷ []) ∙ add-one (length l) in
-    append-assoc l (x ∷ []) (drop (length (l ++ (x ∷ []))) old)
-    ∙ ap (λ (r : List ℕ). l ++ r) (ap {B = List ℕ} (λ k. x ∷ drop k old) one ∙ sym rest)
-  where
-    rest : drop (length l) (set old (length l) x) ≡ x ∷ drop (suc (length l)) old
-    rest = ap (drop (length l)) (set-split old (length l) x h) ∙ drop-at (take (length l) old) (x ∷ drop (suc (length l)) old) (length l) (length-take-le (length l) old (omega arith))
 
 pub digit-stored : (i n : ℕ) (out : List ℕ) → 0 < i → i ≤ length out
     → placed (digits (i - 1) (n / 10)) (set out (i - 1) (48 + n % 10)) ≡ placed (digits i n) out

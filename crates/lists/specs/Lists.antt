@@ -6,7 +6,7 @@ use Prim.Native.Nat.{ℕ, suc, _+_, _-_, _≤_, _<_}
 use native.Mathlib.Omega.{arith}
 use native.Mathlib.Numerals.{add-one}
 use lib.ListN.{length, take, drop, getD, set, length-map, length-append, length-drop, drop-of-length-le}
-use lib.Seq.{take-length, drop-cons, set-at, take-all, take-at, take-suc, take-append-seam, length-take-le, drop-at, drop-drop, getD-append-add, getD-drop}
+use lib.Seq.{take-length, drop-cons, set-at, set-split, take-all, take-at, take-suc, take-append-seam, length-take-le, drop-at, drop-drop, getD-append-add, getD-drop}
 use Rattle.definitions.specs.Words.{placed}
 
 module _ {ℓ} {A : Type ℓ} where
@@ -81,6 +81,17 @@ module _ {ℓ} {A : Type ℓ} where
     where
       one : length l + 1 ≡ suc (length l)
       one = omega arith
+
+  -- and may be stored before the front is written
+  pub placed-last : (l old : List A) (x : A) → length l < length old → placed (l ++ (x ∷ [])) old ≡ placed l (set old (length l) x)
+  unfolding placed
+  placed-last l old x h =
+      let one : length (l ++ (x ∷ [])) ≡ suc (length l) = length-append l (x ∷ []) ∙ add-one (length l) in
+      append-assoc l (x ∷ []) (drop (length (l ++ (x ∷ []))) old)
+      ∙ ap (λ (r : List A). l ++ r) (ap {B = List A} (λ k. x ∷ drop k old) one ∙ sym rest)
+    where
+      rest : drop (length l) (set old (length l) x) ≡ x ∷ drop (suc (length l)) old
+      rest = ap (drop (length l)) (set-split old (length l) x h) ∙ drop-at (take (length l) old) (x ∷ drop (suc (length l)) old) (length l) (length-take-le (length l) old (omega arith))
 
   pub placed-front : (l old : List A) → take (length l) (placed l old) ≡ l
   unfolding placed

@@ -1,6 +1,6 @@
 -- Members of a list of numbers: at an index, in a rising list, in a mapped list, behind a place; a list without one. A mapped list, its fronts and rests.
 use mathlib.Core.Path.{_≡_, refl, sym, ap}
-use mathlib.Core.Logic.{_⊎_, inl, inr}
+use mathlib.Core.Logic.{_⊎_, inl, inr, ⊎-elim}
 use mathlib.Core.List.{List, [], _∷_, map, List·Memᴰ as In, List·Memᴰ·head as here, List·Memᴰ·tail as there, List·Memᴰ·not-nil as in-nil, List·Memᴰ·cases-cons as in-cons}
 use Prim.Native.Nat.{ℕ, zero, suc, _<_}
 use native.Mathlib.Omega.{arith}
@@ -54,6 +54,11 @@ pub in-drop : (i : ℕ) (l : List ℕ) (b : ℕ) → In b (drop i l) → In b l
 in-drop zero l b m = m
 in-drop (suc i) [] b m = m
 in-drop (suc i) (a ∷ l) b m = there (in-drop i l b m)
+
+pub in-take : (i : ℕ) (l : List ℕ) (b : ℕ) → In b (take i l) → In b l
+in-take zero l b m = absurd (in-nil m)
+in-take (suc i) [] b m = m
+in-take (suc i) (a ∷ l) b m = ⊎-elim (λ e. here e) (λ k. there (in-take i l b k)) (in-cons m)
 
 pub in-none : (l : List ℕ) → ((i : ℕ) → In i l → ⊥) → l ≡ []
 in-none [] h = refl
