@@ -1,6 +1,6 @@
 -- What each service answers and leaves in the slices lent to it (document 01, "When a request is turned down"; document 02, S-1 to S-8).
 -- A service's checks are an ordered list; the first that is met decides number, place and what becomes of each lent slice.
-use Prim.Native.Nat.{ℕ, _+_, _*_, _%_}
+use Prim.Native.Nat.{ℕ, _+_, _%_}
 use mathlib.Core.Bool.{Bool, true, false, cond, not, _||_}
 use mathlib.Core.Path.{_≡_}
 use mathlib.Core.List.{List, [], _∷_, _++_, map}
@@ -156,9 +156,9 @@ rangePastEnd n start count = check (ltb n (start + count)) 8 0 true
 abbrev pub resultTooShort : ℕ → ℕ → Check
 resultTooShort needed n = check (ltb n needed) 9 needed true
 
--- of two result slices: so many runs of q bytes each for the one, an entry a run for the other
-abbrev pub runsTooShort : ℕ → ℕ → ℕ → ℕ → Check
-runsTooShort q needed bytes entries = check (ltb bytes (q * needed) || ltb entries needed) 9 needed true
+-- of two result slices of n and m entries, which must have so many
+abbrev pub eitherTooShort : ℕ → ℕ → ℕ → ℕ → Check
+eitherTooShort first n second m = check (ltb n first || ltb m second) 9 second true
 
 -- ---- the services: t is a table, work and result are what the lent slices hold before
 
@@ -196,6 +196,15 @@ gives checks success = record { checks = checks; success = success; lent = [] }
 abbrev pub writes : List Check → List ℕ → ℕ → List ℕ → Service
 writes checks l beside result =
     record { checks = checks ++ (resultTooShort (length l) (length result) ∷ []); success = done (length l) beside; lent = resultSlice l result ∷ [] }
+
+-- one that writes two lists, each to a slice of its own, judges both slices before it writes, and gives the number of entries of the second
+abbrev pub writesBoth : List Check → List ℕ → List ℕ → List ℕ → List ℕ → Service
+writesBoth checks l m first second =
+    record {
+      checks = checks ++ (eitherTooShort (length l) (length first) (length m) (length second) ∷ []);
+      success = done (length m) 0;
+      lent = resultSlice l first ∷ resultSlice m second ∷ [];
+    }
 
 -- the same with a work slice, which is lent first
 abbrev pub working : List ℕ → Service → Service
@@ -265,10 +274,5 @@ fromStepsService text result = writes (textTooLong text ∷ []) (fromSteps text)
 -- a census of the runs of q samples: the runs one behind the other in one slice, their counts in another
 unfoldable pub censusService : Order → List ℕ → ℕ → List ℕ → List ℕ → List ℕ → Service
 censusService o t q work runs counts =
-    let listed = censusRuns o q (textOf o t) in
-    working work
-    (record {
-      checks = (oddWindow q ∷ tableChecks o t (length work)) ++ (runsTooShort q (length listed) (length runs) (length counts) ∷ []);
-      success = done (length listed) 0;
-      lent = resultSlice (joined listed) runs ∷ resultSlice (censusCounts o q (textOf o t)) counts ∷ [];
-    })
+    let text = textOf o t in
+    working work (writesBoth (oddWindow q ∷ tableChecks o t (length work)) (joined (censusRuns o q text)) (censusCounts o q text) runs counts)
