@@ -1,15 +1,18 @@
 -- Delivering a list of n entries to a slice: where the check of 9 refuses, the slice is as it was (`list-refused`); else the list fits (`list-fits`), and once it stands at the
--- front the call serves (`list-written`). The same of a part of a text, which is judged by 8 before (`range-refused`, `range-fits`, `part-served`).
-use mathlib.Core.Path.{_≡_, refl, _∙_, ap, subst}
+-- front the call serves (`list-written`). Delivering two lists to two slices likewise (`both-refused`, `both-fits`, `both-written`). The same of a part of a text, which is judged by 8 before (`range-refused`, `range-fits`, `part-served`).
+use mathlib.Core.Path.{_≡_, refl, _∙_, ap, ap₂, subst}
+use mathlib.Core.Bool.{false, _||_}
 use mathlib.Core.List.{List, [], _∷_}
 use Prim.Native.Nat.{ℕ, _+_, _≤_}
 use native.Mathlib.Omega.{arith}
 use lib.ListN.{length, take, drop, length-take, length-drop}
+use lib.Dec.{ltb}
 use borrow.Author.Tests.{ltb-false}
 use Rattle.definitions.specs.declared.Answer.{Answer}
 use Rattle.definitions.specs.declared.Answer.the-variants.{Done, Refused}
 use Rattle.definitions.specs.Words.{placed}
-use Rattle.definitions.specs.Services.{Outcome, Check, outcomeOf, rangePastEnd, resultTooShort, writes, Serves, Answers}
+use Rattle.definitions.specs.Services.{Outcome, Check, outcomeOf, rangePastEnd, resultTooShort, eitherTooShort, writes, writesBoth, Serves, Answers}
+use Rattle.lists.specs.Bools.{contra, not-so, or-left, or-right}
 use Rattle.lists.specs.Decisions.{met, none, more, checked, refused-met, done-met}
 use Rattle.lists.specs.Serving.{refused-by, served, passed}
 
@@ -32,6 +35,36 @@ module _ (l old : List ℕ) (n : ℕ) (e : n ≡ length l) (r : Answer) (f : r �
   list-written new g h =
       let (q, k) = done-met short (length l) judged g in
       served (more short q none) (ap outcomeOf (g ∙ ap Done k)) (ap (λ (x : List ℕ). x ∷ []) h)
+
+-- ---- two lists, of n and m entries, for two slices
+
+module _ (l k old other : List ℕ) (n m : ℕ) (e : n ≡ length l) (g : m ≡ length k) (r : Answer) (f : r ≡ checked (eitherTooShort n (length old) m (length other)) m) where
+  abbrev either-short : Check
+  either-short = eitherTooShort (length l) (length old) (length k) (length other)
+
+  both-judged : r ≡ checked either-short (length k)
+  both-judged = subst (λ (j : ℕ). r ≡ checked (eitherTooShort (length l) (length old) j (length other)) j) g (subst (λ (i : ℕ). r ≡ checked (eitherTooShort i (length old) m (length other)) m) e f)
+
+  pub both-refused : {a b : ℕ} → r ≡ Refused a b → Serves (writesBoth [] l k old other) (Answers r) (old ∷ other ∷ [])
+  unfolding outcomeOf
+  both-refused h = let (q, i) = refused-met either-short (length k) both-judged h in refused-by either-short (met q) (ap outcomeOf i) refl
+
+  pub both-fits : {a : ℕ} → r ≡ Done a → (length l ≤ length old) × (length k ≤ length other)
+  both-fits h =
+      let q = done-met either-short (length k) both-judged h .0 in
+      (ltb-false (length old) (length l) (neither-left q), ltb-false (length other) (length k) (neither-right q))
+    where
+      neither-left : ltb (length old) (length l) || ltb (length other) (length k) ≡ false → ltb (length old) (length l) ≡ false
+      neither-left q = not-so (ltb (length old) (length l)) (λ t. contra (or-left (ltb (length old) (length l)) (ltb (length other) (length k)) t) q)
+
+      neither-right : ltb (length old) (length l) || ltb (length other) (length k) ≡ false → ltb (length other) (length k) ≡ false
+      neither-right q = not-so (ltb (length other) (length k)) (λ t. contra (or-right (ltb (length old) (length l)) (ltb (length other) (length k)) t) q)
+
+  pub both-written : {a : ℕ} (new newer : List ℕ) → r ≡ Done a → new ≡ placed l old → newer ≡ placed k other → Serves (writesBoth [] l k old other) (Answers r) (new ∷ newer ∷ [])
+  unfolding outcomeOf
+  both-written new newer h i j =
+      let (q, d) = done-met either-short (length k) both-judged h in
+      served (more either-short q none) (ap outcomeOf (h ∙ ap Done d)) (ap₂ {C = List (List ℕ)} (λ x y. x ∷ y ∷ []) i j)
 
 -- ---- a part of a text of n samples
 

@@ -4,7 +4,7 @@ use definitions::Answer;
 use definitions::ReadAnswer;
 use definitions::Search;
 ghost use mathlib.Core.Path.{_≡_};
-ghost use Rattle.definitions.specs.Services.{resultTooShort, rangePastEnd};
+ghost use Rattle.definitions.specs.Services.{resultTooShort, eitherTooShort, rangePastEnd};
 ghost use Rattle.lists.specs.Decisions.{checked};
 ghost use Rattle.results.specs.Results.{withChair, withTests};
 
@@ -17,6 +17,19 @@ pub fn result_fits(needed: usize, n: usize) -> Answer
     } else {
         Answer::Done(needed)
     }
+}
+
+// Refusal 9 of two result slices of n and m entries, or the entries needed in the second.
+pub fn both_fit(first: usize, n: usize, second: usize, m: usize) -> Answer
+    ensures { λ r. ⌜ r ≡ checked (eitherTooShort first n second m) second ⌝ }
+{
+    if n < first {
+        return Answer::Refused(9, second);
+    }
+    if m < second {
+        return Answer::Refused(9, second);
+    }
+    Answer::Done(second)
 }
 
 // Refusal 8 of so many samples from `start` on in a text of n samples, or how many they are.

@@ -115,7 +115,7 @@ runs-more q keys i h =
     ∙ ap joined (map-append (runWith sampleOrder q) (take i keys) (getD keys i 0 ∷ []))
     ∙ joined-more (map (runWith sampleOrder q) (take i keys)) (runWith sampleOrder q (getD keys i 0))
 
-runs-length : (q : ℕ) (keys : List ℕ) → length (joined (map (runWith sampleOrder q) keys)) ≡ q * length keys
+pub runs-length : (q : ℕ) (keys : List ℕ) → length (joined (map (runWith sampleOrder q) keys)) ≡ q * length keys
 unfolding joined
 runs-length q [] = omega arith
 runs-length q (k ∷ keys) =

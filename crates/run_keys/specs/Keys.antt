@@ -103,17 +103,16 @@ module _ (o : Order) where
   unfolding digitOf
   ranks-same a b h k =
       let ra = rank-range o a h .0 in
-      let rb = rank-range o b k .0 in
-      (
+      let rb = rank-range o b k .0 in (
         bool-ext (ltb (rankOf o a) (rankOf o b)) (ltb (digitOf o a) (digitOf o b))
-        (λ e. lt-ltb (rankOf o a - 1) (rankOf o b - 1) (omega (arith, ltb-true (rankOf o a) (rankOf o b) e)))
-        (λ e. lt-ltb (rankOf o a) (rankOf o b) (omega (arith, ltb-true (rankOf o a - 1) (rankOf o b - 1) e))),
+            (λ e. lt-ltb (rankOf o a - 1) (rankOf o b - 1) (omega (arith, ltb-true (rankOf o a) (rankOf o b) e)))
+            (λ e. lt-ltb (rankOf o a) (rankOf o b) (omega (arith, ltb-true (rankOf o a - 1) (rankOf o b - 1) e))),
         bool-ext (eqb (rankOf o a) (rankOf o b)) (eqb (digitOf o a) (digitOf o b))
-        (λ e. eq-eqb (rankOf o a - 1) (rankOf o b - 1) (ap (λ (n : ℕ). n - 1) (eqb-true (rankOf o a) (rankOf o b) e)))
-        (λ e. eq-eqb (rankOf o a) (rankOf o b) (omega (arith, eqb-true (rankOf o a - 1) (rankOf o b - 1) e))),
+            (λ e. eq-eqb (rankOf o a - 1) (rankOf o b - 1) (ap (λ (n : ℕ). n - 1) (eqb-true (rankOf o a) (rankOf o b) e)))
+            (λ e. eq-eqb (rankOf o a) (rankOf o b) (omega (arith, eqb-true (rankOf o a - 1) (rankOf o b - 1) e))),
         bool-ext (eqb a b) (eqb (digitOf o a) (digitOf o b))
-        (λ e. eq-eqb (rankOf o a - 1) (rankOf o b - 1) (ap (λ (n : ℕ). rankOf o n - 1) (eqb-true a b e)))
-        (λ e. eq-eqb a b (sym (byte-of-rank o a h) ∙ ap (byteOf o) (omega (arith, eqb-true (rankOf o a - 1) (rankOf o b - 1) e)) ∙ byte-of-rank o b k)),
+            (λ e. eq-eqb (rankOf o a - 1) (rankOf o b - 1) (ap (λ (n : ℕ). rankOf o n - 1) (eqb-true a b e)))
+            (λ e. eq-eqb a b (sym (byte-of-rank o a h) ∙ ap (byteOf o) (omega (arith, eqb-true (rankOf o a - 1) (rankOf o b - 1) e)) ∙ byte-of-rank o b k)),
       )
 
   pub key-before : (x y : List ℕ) → Bytes x → Bytes y → length x ≡ length y → lexlt (map (rankOf o) x) (map (rankOf o) y) ≡ ltb (keyOf o x) (keyOf o y)
