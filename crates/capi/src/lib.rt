@@ -8,7 +8,7 @@ use replies::replied_read;
 use replies::replied_search;
 ghost use mathlib.Core.Path.{_≡_};
 ghost use mathlib.Core.List.{[], _∷_};
-ghost use Rattle.definitions.specs.Services.{Serves, sampleOrder, formerOrder, buildService, checkService, buildProfileService, checkProfileService, readService, extractService, countService, locateService, cutsService, lyndonLengthService, lyndonArrayService, convertOrderService, toStepsService, fromStepsService};
+ghost use Rattle.definitions.specs.Services.{Serves, sampleOrder, formerOrder, buildService, checkService, buildProfileService, checkProfileService, readService, extractService, countService, locateService, cutsService, lyndonLengthService, lyndonArrayService, convertOrderService, toStepsService, fromStepsService, censusService};
 ghost use Rattle.definitions.specs.Replies.{Replies, SearchReplies, contentOf, interfaceNumber};
 
 // The number of this interface, by which a program can tell another library from its own.
@@ -160,4 +160,18 @@ pub extern "C" fn sirbolta_from_steps(text: &[u8], result: &mut [u8]) -> Reply
     ensures { λ r. ⌜ Serves (fromStepsService (now (text .entry)) (now (result .entry))) (Replies r) (now (result .exit) ∷ []) ⌝ }
 {
     replied(index::from_steps(text, result))
+}
+
+// Lists the distinct runs of q samples of the text, and how often each begins there: `census::census`.
+#[no_mangle]
+pub extern "C" fn sirbolta_census(
+    table: &[u32],
+    q: usize,
+    work: &mut [u32],
+    runs: &mut [u8],
+    counts: &mut [u32],
+) -> Reply
+    ensures { λ r. ⌜ Serves (censusService sampleOrder (now (table .entry)) q (now (work .entry)) (now (runs .entry)) (now (counts .entry))) (Replies r) (now (work .exit) ∷ now (runs .exit) ∷ now (counts .exit) ∷ []) ⌝ }
+{
+    replied(census::census(table, q, work, runs, counts))
 }
