@@ -20,10 +20,10 @@
  *
  * A slice is a pointer and a length in entries; a null pointer with length 0 is fine. The caller sees to it that
  *   - each pointer is valid for its length, and a pointer to words is aligned to 4 bytes;
- *   - the work slice and the result slice overlap neither each other nor an input.
+ *   - the slices that are written, work, result, runs and counts, overlap neither one another nor an input.
  * Everything else is checked. Inputs are never written, nothing is allocated and nothing is kept between calls, so threads may call at the
- * same time, each with slices of its own. Reading back and locating take up to 240 KiB of stack, every other service less than 4 KiB: some C
- * libraries give a thread 128 KiB, so a thread that reads back or locates is started with more (pthread_attr_setstacksize).
+ * same time, each with slices of its own. Reading back and locating take up to 240 KiB of stack, a census up to 300, every other service less
+ * than 4 KiB: some C libraries give a thread 128 KiB, so a thread for these three is started with more (pthread_attr_setstacksize).
  *
  * A reply's number is 0 on success; otherwise it is the first in this list that is met and concerns the service:
  *
@@ -33,6 +33,7 @@
  *   2  pattern empty       the pattern has no sample                                   count, locate, live_cuts
  *   3  pattern too long    the pattern has more than 2,047 samples                     count, locate, live_cuts
  *  10  no step             the pattern has one sample, and form says steps             count, locate
+ *  13  odd window          q is below 1 or above 8                                     census
  *   4  work too short      the work slice has fewer than 16,384 words                  all with a work slice
  *   5  table length        the table has no word, an odd number, or more than 4,608    all with a table
  *   6  bad word            a word of the table is bad                                  all with a table
@@ -43,16 +44,19 @@
  *   8  range past the end  start + length is above the text's length (it never wraps)  extract
  *                          the position is not below the text's length                 lyndon_length
  *   9  result too short    the result slice has fewer entries than the result          all with a result slice
+ *                          runs has fewer than q bytes, or counts than 1 word, a run   census
  *
  * So 11 and 12 come behind 1 and before 4 when building, and behind 7 when checking.
  *
- * Place is the lowest index of a bad word for 6, the entries needed for 9, the lowest index of a byte above 8 for 11, otherwise 0. Count is
- * what the service says on success, 0 when it refuses. Chair is the chair number where sirbolta_read succeeds, otherwise 0.
+ * Place is the lowest index of a bad word for 6, the entries needed for 9 (by a census: the number of runs), the lowest index of a byte above 8
+ * for 11, otherwise 0. Count is what the service says on success, 0 when it refuses. Chair is the chair number where sirbolta_read succeeds,
+ * otherwise 0.
  *
- * The result slice afterwards: on success the result stands at its front and the rest is as it was; after a refusal all is as it was.
+ * The result slice afterwards: on success the result stands at its front and the rest is as it was; after a refusal all is as it was. Of runs
+ * and counts the same holds: where either is too short, both are as they were.
  * The work slice afterwards: after a refusal that stands above 7 in the list it is as it was, so also after 11 and 12 when building; after the
  * others, so also after 11 and 12 when checking, and after success its first 16,384 words are 0 and the rest is as it was.
- * What either held before plays no part.
+ * What they held before plays no part.
  */
 #ifndef SIRBOLTA_H
 #define SIRBOLTA_H
@@ -144,6 +148,13 @@ sirbolta_reply sirbolta_build_profile(const uint8_t *text, size_t text_len, uint
 
 /* Whether these words are the table of some profile drive and chair number. Count: the rules. */
 sirbolta_reply sirbolta_check_profile(const uint32_t *table, size_t table_len, uint32_t *work, size_t work_len);
+
+/*
+ * The census of the text: writes every run of q samples, 1 to 8, that stand in it one after the other, each run once, in the order of signed samples, q bytes each
+ * to the front of runs; and how often each begins in the text, overlapping ones included, to the front of counts. Count: the runs. The counts add up to the text's
+ * length - q + 1, or to 0 where it has fewer than q samples. No text has more than 2,046 runs, nor runs of more than 16,320 bytes in all.
+ */
+sirbolta_reply sirbolta_census(const uint32_t *table, size_t table_len, size_t q, uint32_t *work, size_t work_len, uint8_t *runs, size_t runs_len, uint32_t *counts, size_t counts_len);
 
 #ifdef __cplusplus
 }

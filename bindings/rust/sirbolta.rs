@@ -4,10 +4,11 @@
 //! is `count_with_tests` or `locate_with_tests`.
 //!
 //! The work slice needs `WORK` words, the result slice as many entries as the result has; what they held before plays no part. On success the result
-//! stands at the front of the result slice and the rest is as it was; after a refusal all of it is as it was. The work slice is as it was after
-//! `WorkTooShort`, `TableLength`, `BadWord` and any refusal whose check comes before these, so also after `OffHeading` and `NotAtRest` of `build_profile`;
-//! after the others, so also after these two of `check_profile`, and after success its first `WORK` words are 0 and the rest is as it was. Reading back and
-//! locating take up to 240 KiB of stack, every other service less than 4 KiB: a thread that reads back or locates wants a stack above that, as Rust's own have.
+//! stands at the front of the result slice and the rest is as it was; after a refusal all of it is as it was. A census has two, of which the same holds: where
+//! either is too short, both are as they were. The work slice is as it was after `WorkTooShort`, `TableLength`, `BadWord` and any refusal whose check comes
+//! before these, so also after `OffHeading` and `NotAtRest` of `build_profile`; after the others, so also after these two of `check_profile`, and after success
+//! its first `WORK` words are 0 and the rest is as it was. Reading back and locating take up to 240 KiB of stack, a census up to 300, every other service less
+//! than 4 KiB: a thread for these three wants a stack above that, as Rust's own have.
 //!
 //! Samples are compared as signed numbers, a byte of 128 or more meaning itself minus 256. A former table is one that was built while they were compared as
 //! unsigned numbers. `to_signed` takes former tables and no others; to every other function they are `NotATable`, unless all samples of the text are below 128
@@ -32,7 +33,7 @@ pub const INTERFACE: u32 = 3;
 /// The words that a work slice needs.
 pub const WORK: usize = 16_384;
 
-/// The most samples of a text or a pattern: no result but a table has more entries.
+/// The most samples of a text or a pattern: no result but a table and the runs of a census has more entries.
 pub const SAMPLES: usize = 2_047;
 
 /// The most words of a table.
@@ -40,6 +41,9 @@ pub const TABLE: usize = 4_608;
 
 /// The most cuts that `live_cuts` writes.
 pub const CUTS: usize = 11;
+
+/// The most bytes that the runs of a census have: 2,040 runs of 8 samples.
+pub const RUNS: usize = 16_320;
 
 /// What a table holds, as the caller of a search says.
 #[derive(Clone, Copy, Debug, PartialEq, Eq)]
@@ -68,7 +72,7 @@ pub enum Refusal {
     NotATable,
     RangePastEnd,
     ResultTooShort {
-        /// How many entries the result has.
+        /// How many entries the result has; of a census, how many runs there are.
         needed: usize,
     },
     /// It comes behind `PatternTooLong` and before `WorkTooShort`.
@@ -80,6 +84,8 @@ pub enum Refusal {
     },
     /// It comes behind `OffHeading`.
     NotAtRest,
+    /// It comes before `WorkTooShort`.
+    OddWindow,
 }
 
 /// A text read back: how many samples were written, and the chair number.
@@ -198,6 +204,14 @@ pub fn check_profile(table: &[u32], work: &mut [u32]) -> Result<usize, Refusal> 
     counted(unsafe { sirbolta_check_profile(table.as_ptr(), table.len(), work.as_mut_ptr(), work.len()) })
 }
 
+/// The census of the text: writes every run of `q` samples, 1 to 8, that stand in it one after the other, each run once, in the order of signed samples, `q` bytes each
+/// to `runs`, and how often each begins in the text, overlapping ones included, to `counts`, and answers how many runs there are; `OddWindow` for any other `q`. The
+/// counts add up to the text's length - q + 1, or to 0 where it has fewer than `q` samples. `RUNS` bytes and `SAMPLES` words are enough for every text.
+pub fn census(table: &[u32], q: usize, work: &mut [u32], runs: &mut [u8], counts: &mut [u32]) -> Result<usize, Refusal> {
+    let (w, n, r, m) = (work.as_mut_ptr(), work.len(), runs.as_mut_ptr(), runs.len());
+    counted(unsafe { sirbolta_census(table.as_ptr(), table.len(), q, w, n, r, m, counts.as_mut_ptr(), counts.len()) })
+}
+
 impl Content {
     fn form(self) -> u32 {
         match self {
@@ -223,10 +237,11 @@ impl Refusal {
             Refusal::NoStep => 10,
             Refusal::OffHeading { .. } => 11,
             Refusal::NotAtRest => 12,
+            Refusal::OddWindow => 13,
         }
     }
 
-    /// The index of the bad word, the entries needed, the index of the byte above 8, otherwise 0.
+    /// The index of the bad word, the entries or runs needed, the index of the byte above 8, otherwise 0.
     pub fn place(self) -> usize {
         match self {
             Refusal::BadWord { at } | Refusal::OffHeading { at } => at,
@@ -249,6 +264,7 @@ impl Refusal {
             10 => Refusal::NoStep,
             11 => Refusal::OffHeading { at: place },
             12 => Refusal::NotAtRest,
+            13 => Refusal::OddWindow,
             _ => unreachable!("the library has no refusal {number}"),
         }
     }
@@ -270,6 +286,7 @@ impl fmt::Display for Refusal {
             Refusal::NoStep => write!(f, "the pattern has one sample, so no step by which to search a table that holds steps"),
             Refusal::OffHeading { at } => write!(f, "byte {at} of the text is above 8, so neither rest nor a heading"),
             Refusal::NotAtRest => write!(f, "the text is empty, or does not begin and end at rest"),
+            Refusal::OddWindow => write!(f, "the runs of a census have 1 to 8 samples"),
         }
     }
 }
@@ -337,4 +354,5 @@ unsafe extern "C" {
     fn sirbolta_from_steps(text: *const u8, text_len: usize, result: *mut u8, result_len: usize) -> Reply;
     fn sirbolta_build_profile(text: *const u8, text_len: usize, chair: u16, work: *mut u32, work_len: usize, result: *mut u32, result_len: usize) -> Reply;
     fn sirbolta_check_profile(table: *const u32, table_len: usize, work: *mut u32, work_len: usize) -> Reply;
+    fn sirbolta_census(table: *const u32, table_len: usize, q: usize, work: *mut u32, work_len: usize, runs: *mut u8, runs_len: usize, counts: *mut u32, counts_len: usize) -> Reply;
 }

@@ -31,11 +31,12 @@ raises NotATable for them, unless all samples of the text are below 128 or none 
 
 Each service answers from its arguments alone, or raises the refusal whose check is met first, a subclass of `Refusal`. `WorkTooShort` and
 `ResultTooShort` are never met: this package lends slices that are long enough. Before the library is called, an argument of another type raises
-TypeError; a negative number, a word or chair number with too many bits, or bytes that are no whole number of words raise ValueError.
+TypeError; a negative number, a word or chair number with too many bits, or bytes that are no whole number of words raise ValueError. The samples of a
+census's runs may be any whole number: `OddWindow` says which are refused.
 
 Threads may call at the same time, and the interpreter's lock is free while the library works. A thread has one work slice of 64 KiB for all its calls.
-`read` and `locate` take up to 240 KiB of stack. On a thread that was started with a stack below 512 KiB they raise RuntimeError and call nothing; on any
-other so much must be left, which is not looked at: calls nested very deeply in Python can use it up.
+`read`, `locate` and `census` take up to 300 KiB of stack. On a thread that was started with a stack below 512 KiB they raise RuntimeError and call nothing;
+on any other so much must be left, which is not looked at: calls nested very deeply in Python can use it up.
 
 The library is the file that the environment variable SIRBOLTA_LIBRARY names, or else `libsirbolta.so` inside this package, or else the one in the
 repository's target/lib. One with another interface number, or without a function that is called here, is not loaded: ImportError.
@@ -53,8 +54,8 @@ from typing import TYPE_CHECKING, Any, NoReturn, SupportsIndex, Union
 from ._native import INTERFACE, WORK as _WORK, Reply as _Reply, SearchReply as _SearchReply
 from ._native import enough_stack as _enough_stack, library as _library, work as _work
 from .refusals import (
-    BadWord, NoStep, NotATable, NotAtRest, OffHeading, PatternEmpty, PatternTooLong, RangePastEnd, Refusal, ResultTooShort, TableLength, TextTooLong,
-    WorkTooShort, refusal as _refusal,
+    BadWord, NoStep, NotATable, NotAtRest, OddWindow, OffHeading, PatternEmpty, PatternTooLong, RangePastEnd, Refusal, ResultTooShort, TableLength,
+    TextTooLong, WorkTooShort, refusal as _refusal,
 )
 
 if TYPE_CHECKING:
@@ -64,9 +65,9 @@ else:
 
 __all__ = [
     "INTERFACE", "Table", "build", "check", "read", "extract", "count", "count_with_tests", "count_each", "locate", "locate_with_tests", "live_cuts",
-    "lyndon_length", "lyndon_array", "to_signed", "to_steps", "from_steps", "build_profile", "check_profile",
+    "lyndon_length", "lyndon_array", "to_signed", "to_steps", "from_steps", "build_profile", "check_profile", "census",
     "Refusal", "TextTooLong", "PatternEmpty", "PatternTooLong", "WorkTooShort", "TableLength", "BadWord", "NotATable", "RangePastEnd", "ResultTooShort",
-    "NoStep", "OffHeading", "NotAtRest",
+    "NoStep", "OffHeading", "NotAtRest", "OddWindow",
 ]
 
 Samples = Buffer
@@ -75,12 +76,14 @@ Words = Union["Table", Buffer, Sequence[int]]
 _SAMPLES = 2_047
 _TABLE = 4_608
 _CUTS = 11
+_RUNS = 16_320  # bytes: 2,040 runs of 8 samples
 _Bytes = ctypes.c_uint8 * _SAMPLES
 _Numbers = ctypes.c_uint32 * _SAMPLES
 _TableWords = ctypes.c_uint32 * _TABLE
 _Cuts = ctypes.c_uint32 * _CUTS
+_Runs = ctypes.c_uint8 * _RUNS
 _AT_ONCE = 100  # tables that `count_each` hands over by one call: some 2 ms for 1,400 samples each, in which no signal is looked at
-_LARGEST = 2**64 - 1  # of a start, a length or a position; no text reaches as far, so a larger number is refused alike
+_LARGEST = 2**64 - 1  # of a start, a length, a position or the samples of a run; no text reaches as far, so a larger number is refused alike
 
 
 class Table:
@@ -153,6 +156,10 @@ class Table:
     def check_profile(self) -> int:
         """How many rules it has, if it is a profile table: `sirbolta.check_profile`."""
         return check_profile(self)
+
+    def census(self, q: int) -> list[tuple[bytes, int]]:
+        """The runs of q samples of its text, each with how often it begins there: `sirbolta.census`."""
+        return census(self, q)
 
     def __bytes__(self) -> bytes:
         return self._bytes
@@ -400,6 +407,26 @@ def check_profile(table: Words) -> int:
     return _counted(_reply_to(table, _library.sirbolta_check_profile, _work(), _WORK))
 
 
+def census(table: Words, q: int) -> list[tuple[bytes, int]]:
+    """Every run of q samples, 1 to 8, that stand in the text one after the other, each run once, in the order of signed samples, with how often it begins in the text,
+    overlapping ones included. The numbers add up to the text's length - q + 1, or to 0 where it has fewer than q samples. Refusals: OddWindow for any other q,
+    those of `check`.
+
+    >>> census(build(b"abab", chair=40), q=2)
+    [(b'ab', 2), (b'ba', 1)]
+    >>> census(build(bytes([1, 255, 1]), chair=40), q=1)
+    [(b'\\xff', 1), (b'\\x01', 2)]
+    >>> census(build(b"abab", chair=40), q=9)
+    Traceback (most recent call last):
+    sirbolta.refusals.OddWindow: refused 13: the runs of a census have 1 to 8 samples
+    """
+    _enough_stack()
+    window, runs, counts = min(max(_whole(q, "q"), 0), _LARGEST), _Runs(), _Numbers()
+    number = _counted(_reply_to(table, _library.sirbolta_census, window, _work(), _WORK, runs, _RUNS, counts, _SAMPLES))
+    samples = ctypes.string_at(runs, window * number)
+    return [(samples[start : start + window], count) for start, count in zip(range(0, len(samples), window), counts)]
+
+
 def _built(service: Any, text: Samples, chair: int) -> Table:
     """The table that a service builds of a text and a chair number."""
     samples, result = _samples(text), _TableWords()
@@ -490,11 +517,16 @@ def _address(view: memoryview) -> int:
     return address
 
 
-def _number(value: SupportsIndex, name: str, bits: int | None = None) -> int:
-    """A whole number that is not negative, with at most so many bits. True and False are none."""
+def _whole(value: SupportsIndex, name: str) -> int:
+    """A whole number. True and False are none."""
     if isinstance(value, bool) or not hasattr(value, "__index__"):
         raise TypeError(f"{name} is a whole number, not {type(value).__name__}")
-    number = index(value)
+    return index(value)
+
+
+def _number(value: SupportsIndex, name: str, bits: int | None = None) -> int:
+    """A whole number that is not negative, with at most so many bits."""
+    number = _whole(value, name)
     if number < 0:
         raise ValueError(f"{name} is negative")
     if bits is not None and number >> bits:

@@ -11,7 +11,8 @@ from typing import Any
 
 INTERFACE = 3
 WORK = 16_384  # the words of a work slice
-STACK = 512 << 10  # bytes: on a smaller stack reading back and locating, which take up to 240 KiB of it, are not called
+STACK = 512 << 10  # bytes: on a smaller stack reading back, locating and a census are not called
+NEEDED = 300  # KiB: what these take of it at most
 
 
 class Reply(ctypes.Structure):
@@ -47,6 +48,7 @@ FUNCTIONS: dict[str, tuple[type[ctypes.Structure] | None, list[Any]]] = {
     "from_steps": (Reply, SLICE * 2),
     "build_profile": (Reply, SLICE + [ctypes.c_uint16] + SLICE * 2),
     "check_profile": (Reply, SLICE * 2),
+    "census": (Reply, SLICE + [ctypes.c_size_t] + SLICE * 3),
     "count_each": (None, [ctypes.c_void_p] * 2 + [ctypes.c_size_t, ctypes.c_uint32] + SLICE * 2 + [ctypes.c_void_p]),
 }
 
@@ -93,11 +95,11 @@ def work() -> Any:
 
 
 def enough_stack() -> None:
-    """An error, unless the running thread's stack is large enough for a function that takes up to 240 KiB of it."""
+    """An error, unless the running thread's stack is large enough for a function that takes much of it."""
     if not hasattr(this_thread, "stack"):
         this_thread.stack = stack()
     if 0 < this_thread.stack < STACK:
-        raise RuntimeError(f"up to 240 KiB of stack are needed, and this thread has {this_thread.stack >> 10} KiB in all: start it with more (threading.stack_size)")
+        raise RuntimeError(f"up to {NEEDED} KiB of stack are needed, and this thread has {this_thread.stack >> 10} KiB in all: start it with more (threading.stack_size)")
 
 
 def stack() -> int:

@@ -69,6 +69,10 @@ class NotAtRest(Refusal):
     number, reason = 12, "the text is empty, or does not begin and end at rest"
 
 
+class OddWindow(Refusal):
+    number, reason = 13, "the runs of a census have 1 to 8 samples"
+
+
 def refusal(number: int, place: int, table: int | None = None) -> Refusal:
     """The refusal with this number."""
     return _NUMBERED[number](place, table)
