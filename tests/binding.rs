@@ -8,7 +8,7 @@ mod vector_file;
 
 use calls::*;
 use former::former_table;
-use sirbolta::{Content, Reading, Refusal, Search, CUTS, SAMPLES, TABLE, WORK};
+use sirbolta::{Content, Reading, Refusal, Search, CUTS, RUNS, SAMPLES, TABLE, WORK};
 use vector_file::{cases, Test};
 
 fn main() {
@@ -51,6 +51,7 @@ fn serve(call: &Call, lent: &Slices) -> (Outcome, Slices) {
         Call::FromSteps { text } => sirbolta::from_steps(text, bytes),
         Call::BuildProfile { text, chair } => sirbolta::build_profile(text, *chair, work, words),
         Call::CheckProfile { table } => sirbolta::check_profile(table, work),
+        Call::Census { table, q } => sirbolta::census(table, *q, work, bytes, words),
         Call::Read { table } => return (outcome(sirbolta::read(table, work, bytes), |read| (read.samples, read.chair, 0)), left),
         Call::Count { table, pattern, .. } => {
             let count = sirbolta::count(table, content, pattern, &mut work.clone());
@@ -79,7 +80,7 @@ fn outcome<T>(answer: Result<T, Refusal>, numbers: impl FnOnce(T) -> (usize, u16
 }
 
 /// The largest table, also converted, the most positions, the most tests, the most cuts, the most and longest Lyndon words, the longest drive rearranged and
-/// restored, and the longest profile drive, in slices of the lengths that the module names.
+/// restored, the longest profile drive, and the censuses with the most bytes and the most runs, in slices of the lengths that the module names.
 fn largest() {
     let mut work = vec![7; WORK];
     let mut result = vec![7; TABLE];
@@ -126,6 +127,15 @@ fn largest() {
     assert_eq!(sirbolta::check_profile(&result[..words], &mut work), Ok(words / 2));
     drive[2045] = 9;
     assert_eq!(sirbolta::check_profile(&table_of(&drive), &mut work), Err(Refusal::OffHeading { at: 2045 }));
+    let (table, mut runs) = (table_of(&text), vec![7; RUNS]);
+    assert_eq!(sirbolta::census(&table, 8, &mut work, &mut runs[1..], &mut entries), Err(Refusal::ResultTooShort { needed: 2040 }));
+    assert_eq!(sirbolta::census(&table, 8, &mut work, &mut runs, &mut entries[..2039]), Err(Refusal::ResultTooShort { needed: 2040 }));
+    assert_eq!(sirbolta::census(&table, 8, &mut work, &mut runs, &mut entries), Ok(2040));
+    assert_eq!(runs, text.windows(8).flatten().copied().collect::<Vec<u8>>()); // it rises, so its runs do
+    assert_eq!(entries[..2040], [1; 2040]);
+    let pairs: Vec<u8> = (0..2047u32).scan(0, |sample: &mut u8, i| Some(std::mem::replace(sample, sample.wrapping_add(2 * (i / 256) as u8 + 1)))).collect();
+    assert_eq!(sirbolta::census(&table_of(&pairs), 2, &mut work, &mut runs, &mut entries), Ok(2046));
+    assert_eq!(entries[..2046], [1; 2046]);
 }
 
 /// The table of a text and the largest chair number.
@@ -155,6 +165,7 @@ fn every_refusal() {
         sirbolta::count(&table, Content::Steps, b"a", &mut work),
         sirbolta::build_profile(&[1, 0, 9, 255], 40, &mut work, &mut result),
         sirbolta::build_profile(&[0, 8], 40, &mut work, &mut result),
+        sirbolta::census(&table, 9, &mut work, &mut bytes, &mut result),
     ];
     let names = [
         Refusal::TextTooLong,
@@ -169,6 +180,7 @@ fn every_refusal() {
         Refusal::NoStep,
         Refusal::OffHeading { at: 2 },
         Refusal::NotAtRest,
+        Refusal::OddWindow,
     ];
     assert_eq!(names.len(), REFUSALS);
     for (i, (answer, name)) in answers.into_iter().zip(names).enumerate() {
@@ -187,6 +199,10 @@ fn every_refusal() {
     assert_eq!(sirbolta::build_profile(&[0, 1, 0], 40, &mut work, &mut result[..11]), Err(Refusal::ResultTooShort { needed: 12 }));
     assert_eq!(sirbolta::check_profile(&table, &mut work), Err(Refusal::OffHeading { at: 0 }));
     assert_eq!(sirbolta::check_profile(&table, &mut work[1..]), Err(Refusal::WorkTooShort));
+    assert_eq!(sirbolta::census(&[], usize::MAX, &mut [], &mut [], &mut []), Err(Refusal::OddWindow));
+    assert_eq!(sirbolta::census(&[], 1, &mut work, &mut bytes, &mut result), Err(Refusal::TableLength));
+    assert_eq!(sirbolta::census(&table, 2, &mut work, &mut bytes[..1], &mut result), Err(Refusal::ResultTooShort { needed: 1 }));
+    assert_eq!(sirbolta::census(&table, 2, &mut work, &mut bytes, &mut []), Err(Refusal::ResultTooShort { needed: 1 }));
     assert_eq!(sirbolta::read(&table, &mut work, &mut bytes), Ok(Reading { samples: 4, chair: 40 }));
     assert_eq!(&bytes[..5], b"aaaa\x07");
 }

@@ -17,9 +17,11 @@ pub enum Call {
     FromSteps { text: Vec<u8> },
     BuildProfile { text: Vec<u8>, chair: u16 },
     CheckProfile { table: Vec<u32> },
+    Census { table: Vec<u32>, q: usize },
 }
 
-/// The slices lent to a call. The result slice is the one in the service's unit, words or bytes; a slice that the service does not take is empty.
+/// The slices lent to a call. The result slice is the one in the service's unit, words or bytes; those of a census are both, bytes for its runs and words for
+/// their counts. A slice that the service does not take is empty.
 #[derive(Clone, Debug, Default, PartialEq)]
 pub struct Slices {
     pub work: Vec<u32>,
@@ -38,13 +40,13 @@ pub struct Outcome {
 }
 
 /// The services; a search by steps has a name of its own.
-pub const SERVICES: [&str; 16] = [
+pub const SERVICES: [&str; 17] = [
     "build", "check", "read", "extract", "count", "locate", "cuts", "lyndon length", "lyndon array", "to signed", "to steps", "from steps", "count by steps",
-    "locate by steps", "build profile", "check profile",
+    "locate by steps", "build profile", "check profile", "census",
 ];
 
 /// The highest number of a refusal.
-pub const REFUSALS: usize = 12;
+pub const REFUSALS: usize = 13;
 
 /// The bit of a form that says that the table holds steps.
 pub const STEPS: u32 = 1;
@@ -69,6 +71,7 @@ impl Call {
             Call::FromSteps { .. } => 11,
             Call::BuildProfile { .. } => 14,
             Call::CheckProfile { .. } => 15,
+            Call::Census { .. } => 16,
         }
     }
 
@@ -84,7 +87,7 @@ pub fn difference(got: &(Outcome, Slices), want: &(Outcome, Slices)) -> Option<S
         return Some(format!("answer {:?}, not {:?}", got.0, want.0));
     }
     let (a, b) = (&got.1, &want.1);
-    let slices = [differs("work", &a.work, &b.work), differs("result", &a.words, &b.words), differs("result", &a.bytes, &b.bytes)];
+    let slices = [differs("work", &a.work, &b.work), differs("words", &a.words, &b.words), differs("bytes", &a.bytes, &b.bytes)];
     slices.into_iter().flatten().next()
 }
 

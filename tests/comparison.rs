@@ -19,10 +19,12 @@ fn main() {
     let long = std::thread::spawn(|| Comparison::new(0x9E3779B97F4A7C15).long_texts());
     let misruled = std::thread::spawn(|| Comparison::new(0xA0761D6478BD642F).misruled_tables(100_000));
     let profiles = std::thread::spawn(|| Comparison::new(0xE7037ED1A0B428DB).profiles());
+    let censuses = std::thread::spawn(|| Comparison::new(0x8EBC6AF09C88C6E3).censuses());
     let mut tally = Comparison::new(0xD1B54A32D192ED03).short_texts();
     tally.add_all(&long.join().unwrap());
     tally.add_all(&misruled.join().unwrap());
     tally.add_all(&profiles.join().unwrap());
+    tally.add_all(&censuses.join().unwrap());
     println!("comparison: {} calls agree with the naive implementation", tally.total());
     tally.print();
 }
@@ -131,6 +133,57 @@ impl Comparison {
         }
     }
 
+    /// Censuses: of every text of the four samples at the ends of both orders up to 4 samples, for every q up to one more; of other texts for any q, and of tables made
+    /// from theirs; of the longest texts with one run, the greatest among them, with 2,040, of which none stands twice, and with few.
+    fn censuses(mut self) -> Tally {
+        for text in (0..=4).flat_map(|n| every_text(&[0, 127, 128, 255], n)) {
+            let table = self.table_of(&text, 40);
+            for q in 0..=text.len() + 1 {
+                self.compare_once(Call::Census { table: table.clone(), q });
+            }
+        }
+        for _ in 0..400 {
+            let n = self.generator.below(61);
+            let (text, q) = (self.generator.text(n), self.generator.window());
+            let table = self.table_of(&text, 40);
+            self.census(&table, q);
+            let (damaged, misruled) = (self.generator.damaged(&table), self.generator.misruled(&table));
+            for table in [damaged, misruled, naive::table_of(Order::Unsigned, &text, 40)] {
+                self.compare(Call::Census { table, q });
+            }
+        }
+        for (text, q) in [(vec![127; 2047], 8), (vec![128; 2047], 1), (distinct_pairs(0, 2047), 8), (fibonacci(127, 128, 2047), 8)] {
+            let table = self.table_of(&text, 40);
+            self.census(&table, q);
+        }
+        for _ in 0..8 {
+            let (text, q) = (self.generator.text(2047), 1 + self.generator.below(8));
+            let table = self.table_of(&text, 40);
+            self.compare(Call::Census { table, q });
+        }
+        self.tally
+    }
+
+    /// A census with slices that are long enough; with slices just as long as needed, and then each of them short by an entry; and with slices of any lengths.
+    fn census(&mut self, table: &[u32], q: usize) {
+        let call = Call::Census { table: table.to_vec(), q };
+        let (outcome, _) = self.compared_with(&call, 16384, 16320, 2047);
+        let runs = outcome.count as usize;
+        let bytes = runs * q;
+        self.compared_with(&call, 16384, bytes, runs);
+        self.compared_with(&call, 16384, bytes.saturating_sub(1), runs);
+        self.compared_with(&call, 16384, bytes, runs.saturating_sub(1));
+        let (work, bytes, runs) = (self.generator.work_length(), self.generator.result_length(bytes), self.generator.result_length(runs));
+        self.compared_with(&call, work, bytes, runs);
+    }
+
+    /// The census with slices of so many words for work, bytes for runs and words for counts.
+    fn compared_with(&mut self, call: &Call, work: usize, runs: usize, counts: usize) -> (Outcome, Slices) {
+        let g = &mut self.generator;
+        let lent = Slices { work: g.words(work), words: g.words(counts), bytes: g.bytes(runs) };
+        self.compared(call, &lent)
+    }
+
     /// Every text of the samples 1 and -1 up to 7 samples, with every pattern up to 4, as samples and as steps, and every position, and listed cuts, Lyndon arrays and
     /// conversion up to 10; these also of the four samples at the ends of both orders, up to 5.
     fn every_small_text(&mut self) {
@@ -229,7 +282,7 @@ impl Comparison {
         self.compare(Call::Cuts { pattern });
     }
 
-    /// Every service on the table of a text, and on tables made from it.
+    /// Every service but the census, which takes as long as 256 searches, on the table of a text, and on tables made from it.
     fn text(&mut self, text: &[u8], searches: usize, damages: usize) {
         let chair = self.generator.chair();
         self.compare(Call::Build { text: text.to_vec(), chair });
@@ -342,7 +395,7 @@ impl Comparison {
         self.compared(&call, &lent);
     }
 
-    /// Slices of these lengths for a call, with any content.
+    /// Slices of these lengths for a call, with any content; both result slices of a census have the same.
     fn lent(&mut self, call: &Call, work: usize, result: usize) -> Slices {
         let g = &mut self.generator;
         match call {
@@ -355,6 +408,7 @@ impl Comparison {
                 Slices { work: g.words(work), words: vec![], bytes: vec![] }
             }
             Call::Cuts { .. } => Slices { work: vec![], words: g.words(result), bytes: vec![] },
+            Call::Census { .. } => Slices { work: g.words(work), words: g.words(result), bytes: g.bytes(result) },
         }
     }
 
@@ -364,7 +418,10 @@ impl Comparison {
         let got = lending::serve(call, lent, null);
         let want = self.naive.answer(call, lent);
         let wrong = match &got {
-            Ok(got) => difference(got, &want).or_else(|| broken_bound(call, got)).or_else(|| self.too_many_tests(call, got.0)),
+            Ok(got) => {
+                let wrong = difference(got, &want).or_else(|| broken_bound(call, got));
+                wrong.or_else(|| self.too_many_tests(call, got.0)).or_else(|| self.other_total(call, got))
+            }
             Err(wrong) => Some(wrong.clone()),
         };
         if let Some(wrong) = wrong {
@@ -385,6 +442,17 @@ impl Comparison {
         let m = if call.by_steps() { pattern.len() - 1 } else { pattern.len() };
         let most = (self.naive.samples(call) + 2).saturating_sub(m);
         (outcome.tests > most as u64).then(|| format!("{} tests, where {most} are the most", outcome.tests))
+    }
+
+    /// What the counts of a census add up to, where that isn't the number of positions from which q samples follow in the drive.
+    fn other_total(&mut self, call: &Call, (outcome, left): &(Outcome, Slices)) -> Option<String> {
+        let Call::Census { q, .. } = call else { return None };
+        if outcome.number != 0 {
+            return None;
+        }
+        let total = left.words[..outcome.count as usize].iter().map(|&count| count as usize).sum::<usize>();
+        let positions = (self.naive.samples(call) + 1).saturating_sub(*q);
+        (total != positions).then(|| format!("the counts add up to {total}, not to {positions}"))
     }
 }
 

@@ -30,6 +30,7 @@ static uint32_t work[WORK];
 static uint32_t words[WORDS];
 static uint32_t table[2 * WORDS];
 static uint8_t samples[5];
+static uint32_t counts[2];
 static int wrong;
 
 static void want(const char *service, int right) {
@@ -82,6 +83,12 @@ int main(void) {
     want("build_profile of a null text", is(sirbolta_build_profile(NULL, 0, 40, NULL, 0, NULL, 0), 12, 0, 0, 0));
     want("check_profile", is(sirbolta_check_profile(profile, WORDS, work, WORK), 0, 0, 6, 0));
     want("check_profile off heading", is(sirbolta_check_profile(abab, WORDS, work, WORK), 11, 0, 0, 0));
-    if (!wrong) printf("header: 31 calls from C are right\n");
+    want("census", is(sirbolta_census(abab, WORDS, 2, work, WORK, samples, 4, counts, 2), 0, 0, 2, 0) && memcmp(samples, "abba", 4) == 0 && counts[0] == 2 && counts[1] == 1);
+    want("census, runs too short", is(sirbolta_census(abab, WORDS, 2, work, WORK, samples, 3, counts, 2), 9, 2, 0, 0));
+    want("census, counts too short", is(sirbolta_census(abab, WORDS, 2, work, WORK, samples, 4, counts, 1), 9, 2, 0, 0));
+    want("census of a shorter text", is(sirbolta_census(abab, WORDS, 5, work, WORK, NULL, 0, NULL, 0), 0, 0, 0, 0));
+    want("census of the runs of no sample", is(sirbolta_census(NULL, 0, 0, NULL, 0, NULL, 0, NULL, 0), 13, 0, 0, 0));
+    want("census of runs of more than 8 samples", is(sirbolta_census(NULL, 0, SIZE_MAX, NULL, 0, NULL, 0, NULL, 0), 13, 0, 0, 0));
+    if (!wrong) printf("header: 37 calls from C are right\n");
     return wrong;
 }

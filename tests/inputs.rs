@@ -186,6 +186,13 @@ impl Generator {
         self.one_of(&[within, within, edge])
     }
 
+    /// How many samples the runs of a census are to have: 1 to 8, or a number that is refused, at times 1 to 8 with a higher bit set.
+    pub fn window(&mut self) -> usize {
+        let within = 1 + self.below(8);
+        let outside = self.one_of(&[0, 9, 10, 255, 1 << 8 | within, 1 << 16 | within, 1 << 32 | within, 1 << 63 | within, usize::MAX]);
+        self.one_of(&[within, within, within, outside])
+    }
+
     pub fn work_length(&mut self) -> usize {
         let short = self.below(16384);
         let long = 16384 + self.below(100);

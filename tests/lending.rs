@@ -34,12 +34,13 @@ pub fn serve(call: &Call, lent: &Slices, null: bool) -> Result<(Outcome, Slices)
             Call::FromSteps { .. } => replied(sirbolta_from_steps(s, sn, b, bn)),
             Call::BuildProfile { chair, .. } => replied(sirbolta_build_profile(s, sn, *chair, w, wn, r, rn)),
             Call::CheckProfile { .. } => replied(sirbolta_check_profile(t, tn, w, wn)),
+            Call::Census { q, .. } => replied(sirbolta_census(t, tn, *q, w, wn, b, bn, r, rn)),
         }
     };
     if text_lent.taken_back("samples")? != text || table_lent.taken_back("table")? != table {
         return Err("an input was written".into());
     }
-    let left = Slices { work: work.taken_back("work")?, words: words.taken_back("result")?, bytes: bytes.taken_back("result")? };
+    let left = Slices { work: work.taken_back("work")?, words: words.taken_back("words")?, bytes: bytes.taken_back("bytes")? };
     Ok((outcome, left))
 }
 
@@ -50,7 +51,7 @@ fn inputs(call: &Call) -> (&[u8], &[u32]) {
         Call::Check { table } | Call::CheckProfile { table } | Call::Read { table } | Call::Extract { table, .. } => (&[], table),
         Call::Count { table, pattern, .. } | Call::Locate { table, pattern, .. } => (pattern, table),
         Call::Cuts { pattern } => (pattern, &[]),
-        Call::LyndonLength { table, .. } | Call::LyndonArray { table } | Call::ToSigned { table } => (&[], table),
+        Call::LyndonLength { table, .. } | Call::LyndonArray { table } | Call::ToSigned { table } | Call::Census { table, .. } => (&[], table),
     }
 }
 

@@ -98,4 +98,15 @@ extern "C" {
         result_len: usize,
     ) -> Reply;
     pub fn sirbolta_check_profile(table: *const u32, table_len: usize, work: *mut u32, work_len: usize) -> Reply;
+    pub fn sirbolta_census(
+        table: *const u32,
+        table_len: usize,
+        q: usize,
+        work: *mut u32,
+        work_len: usize,
+        runs: *mut u8,
+        runs_len: usize,
+        counts: *mut u32,
+        counts_len: usize,
+    ) -> Reply;
 }

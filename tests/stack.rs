@@ -1,20 +1,22 @@
-//! Every service on the longest texts, in a thread with a stack of 512 KiB, and of 288 KiB for the 240 KiB that the library takes; those that take less than 4 KiB,
-//! all but reading back and locating, in one of 32 KiB too. The texts: equal samples, whose Lyndon tree is deep to the left; two whose tree is deep to the right,
-//! of which the rising one has the largest table; and one that is neither. Prints how many calls were right.
+//! Every service on the longest texts, in a thread with a stack of 512 KiB, and in one that has little more than the library takes: 352 KiB for the 300 of a census,
+//! 288 for the 240 of reading back and locating, 32 for the others, which take less than 4. The texts: equal samples, whose Lyndon tree is deep to the left; two
+//! whose tree is deep to the right, of which the rising one has the largest table; and one that is neither. Prints how many calls were right.
 
 mod former;
 mod library;
 
 use former::former_table;
 use library::*;
+use std::collections::BTreeMap;
 
 const CHAIR: u16 = 65535;
 
 fn main() {
-    for size in [512, 288] {
-        println!("stack: {} calls in {size} KiB", within(size, |text| flat(text) + deep(text)));
+    for size in [512, 352] {
+        println!("stack: {} calls in {size} KiB", within(size, |text| flat(text) + deep(text) + census(text)));
     }
-    println!("stack: {} calls in 32 KiB, without reading back and locating", within(32, flat));
+    println!("stack: {} calls in 288 KiB, without the census", within(288, |text| flat(text) + deep(text)));
+    println!("stack: {} calls in 32 KiB, without reading back and locating too", within(32, flat));
 }
 
 /// How many calls were right on a stack of so many KiB.
@@ -39,7 +41,7 @@ fn flat(text: &[u8]) -> usize {
     check(text) + extract(text) + counts + cut(text) + longest(text) + convert(text) + rearrange(text) + profile(text)
 }
 
-/// Those that do.
+/// Those that do, but for the census, which locates and has the drive and its runs on the stack.
 fn deep(text: &[u8]) -> usize {
     let lists: usize = searches(text).map(locate).iter().sum();
     read(text) + lists
@@ -233,6 +235,33 @@ fn profile(text: &[u8]) -> usize {
         assert_eq!(result, left);
     }
     2 * ends.len()
+}
+
+/// The census of runs of 1 and of 8 samples; with a byte less than the runs have, and with a count less, it is refused, and so are runs of 9 samples.
+fn census(text: &[u8]) -> usize {
+    let (table, samples) = (table_of(text), signed(text));
+    let (t, m) = (table.as_ptr(), table.len());
+    let mut work = vec![7u32; 16384];
+    let (w, n) = (work.as_mut_ptr(), work.len());
+    let windows = [1, 8];
+    for q in windows {
+        let mut listed = BTreeMap::new();
+        samples.windows(q).for_each(|run| *listed.entry(run).or_insert(0u32) += 1);
+        let run_bytes: Vec<u8> = listed.keys().flat_map(|run| run.iter().map(|&sample| sample as u8)).collect();
+        let (mut runs, mut counts) = (vec![7u8; q * listed.len()], vec![7u32; listed.len()]);
+        let (r, rn, c, cn) = (runs.as_mut_ptr(), runs.len(), counts.as_mut_ptr(), counts.len());
+        for (rn, cn) in [(rn - 1, cn), (rn, cn - 1)] {
+            let refused = unsafe { sirbolta_census(t, m, q, w, n, r, rn, c, cn) };
+            assert_eq!((refused.number, refused.place as usize, refused.count), (9, listed.len(), 0));
+        }
+        let done = unsafe { sirbolta_census(t, m, q, w, n, r, rn, c, cn) };
+        assert_eq!((done.number, done.place, done.count as usize, done.chair), (0, 0, listed.len(), 0));
+        assert_eq!(runs, run_bytes);
+        assert!(counts.iter().eq(listed.values()));
+    }
+    let odd = unsafe { sirbolta_census(t, m, 9, w, n, std::ptr::null_mut(), 0, std::ptr::null_mut(), 0) };
+    assert_eq!((odd.number, odd.place, odd.count), (13, 0, 0));
+    3 * windows.len() + 1
 }
 
 /// The drive that is rearranged to these steps: each sample is the sum of the entries up to it.

@@ -52,7 +52,7 @@ fn items<'a>(lines: &[&'a str]) -> Result<Items<'a>, String> {
 }
 
 fn test(mut items: Items) -> Result<Test, String> {
-    if take(&mut items, "stage")? != "7" {
+    if take(&mut items, "stage")? != "8" {
         return Err("an unknown stage".into());
     }
     let test = match take(&mut items, "call")? {
@@ -106,6 +106,7 @@ fn call(service: &str, items: &mut Items) -> Result<Call, String> {
                 "longest" => Call::LyndonLength { table, position: number(items, "arg position")? },
                 "longest_all" => Call::LyndonArray { table },
                 "convert_order" => Call::ToSigned { table },
+                "census" => Call::Census { table, q: number(items, "arg q")? },
                 _ => return Err(format!("an unknown call: {service}")),
             }
         }
@@ -125,13 +126,14 @@ fn form(items: &mut Items) -> Result<u32, String> {
     Ok(bit(take(items, "arg steps")?)? * STEPS)
 }
 
-/// The unit of the service's result slice, if it has one.
-fn unit(call: &Call) -> Option<&'static str> {
+/// The names and units of the service's result slices.
+fn results(call: &Call) -> &'static [(&'static str, &'static str)] {
     match call {
-        Call::Build { .. } | Call::BuildProfile { .. } | Call::Locate { .. } | Call::Cuts { .. } => Some("words"),
-        Call::LyndonArray { .. } | Call::ToSigned { .. } => Some("words"),
-        Call::Read { .. } | Call::Extract { .. } | Call::ToSteps { .. } | Call::FromSteps { .. } => Some("bytes"),
-        Call::Check { .. } | Call::CheckProfile { .. } | Call::Count { .. } | Call::LyndonLength { .. } => None,
+        Call::Build { .. } | Call::BuildProfile { .. } | Call::Locate { .. } | Call::Cuts { .. } => &[("result", "words")],
+        Call::LyndonArray { .. } | Call::ToSigned { .. } => &[("result", "words")],
+        Call::Read { .. } | Call::Extract { .. } | Call::ToSteps { .. } | Call::FromSteps { .. } => &[("result", "bytes")],
+        Call::Check { .. } | Call::CheckProfile { .. } | Call::Count { .. } | Call::LyndonLength { .. } => &[],
+        Call::Census { .. } => &[("result", "bytes"), ("result2", "words")],
     }
 }
 
@@ -145,10 +147,17 @@ fn lent(call: &Call, items: &mut Items) -> Result<Slices, String> {
         let value = value.strip_prefix(unit).ok_or(format!("lend {slice} {value}: not {unit}"))?;
         number_of(value.trim_start())
     };
-    let work = if has_work(call) { length("work", "words")? } else { 0 };
-    let result = unit(call).map_or(Ok(0), |unit| length("result", unit))?;
-    let (words, bytes) = if unit(call) == Some("bytes") { (0, result) } else { (result, 0) };
-    Ok(Slices { work: vec![0xA5A5A5A5; work], words: vec![0xA5A5A5A5; words], bytes: vec![0xA5; bytes] })
+    let mut lent = Slices::default();
+    if has_work(call) {
+        lent.work = vec![0xA5A5A5A5; length("work", "words")?];
+    }
+    for &(slice, unit) in results(call) {
+        match unit {
+            "words" => lent.words = vec![0xA5A5A5A5; length(slice, unit)?],
+            _ => lent.bytes = vec![0xA5; length(slice, unit)?],
+        }
+    }
+    Ok(lent)
 }
 
 /// The slices afterwards.
@@ -161,13 +170,13 @@ fn left(call: &Call, lent: &Slices, items: &mut Items) -> Result<Slices, String>
             after => return Err(format!("after work {after}")),
         }
     }
-    if let Some(unit) = unit(call) {
-        let after = take(items, "after result")?;
+    for &(slice, unit) in results(call) {
+        let after = take(items, &format!("after {slice}"))?;
         match (after.strip_prefix("front "), unit) {
             (Some(front), "words") => place(&hex(front)?, &mut left.words)?,
             (Some(front), _) => place(&hex(front)?, &mut left.bytes)?,
             (None, _) if after == "same" => {}
-            (None, _) => return Err(format!("after result {after:.40}")),
+            (None, _) => return Err(format!("after {slice} {after:.40}")),
         }
     }
     Ok(left)

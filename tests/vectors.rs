@@ -13,7 +13,7 @@ use std::process::{exit, Command, Stdio};
 use vector_file::{cases, Case, Test};
 
 /// The programs: what vector files call each, and its file.
-const PROGRAMS: [(&str, &str); 2] = [("motif", "motif"), ("desk", "desk_report")];
+const PROGRAMS: [(&str, &str); 3] = [("motif", "motif"), ("desk", "desk_report"), ("census", "census_report")];
 
 fn main() {
     let arguments: Vec<String> = std::env::args().skip(1).collect();

@@ -1,4 +1,4 @@
-//! Document 01 and requests S-1 to S-7 of document 02 once more, slow and plain, for comparison. Nothing is shared with the library, and definitions are
+//! Document 01 and requests S-1 to S-8 of document 02 once more, slow and plain, for comparison. Nothing is shared with the library, and definitions are
 //! followed as they are worded, but for two:
 //!
 //! - Above 64 symbols `Common` stands in for the wording of the standard factorization, of listed cuts and of the longest Lyndon words, which takes
@@ -6,6 +6,7 @@
 //!   are compared.
 //! - Whether a table is that of some drive is not tried drive by drive: it can only be the one that its last rule spells.
 
+mod census;
 mod order;
 mod profile;
 mod services;

@@ -1,5 +1,6 @@
 //! What each service answers and leaves in the slices: of its checks, the first that is met decides.
 
+use super::census::census;
 use super::order::Order;
 use super::profile::{not_at_rest, off_heading};
 use super::steps::{finds_by_steps, from_steps, steps_of, to_steps};
@@ -15,14 +16,15 @@ enum Verdict {
     Drive(Vec<u8>, u16),
 }
 
-/// The answers, with the last table judged, the last one built, the last drive's Lyndon array and the last pattern's cuts kept, so that many calls on one table
-/// judge it once.
+/// The answers, with the last table judged, the last one built, the last drive's Lyndon array and census and the last pattern's cuts kept, so that many calls on one
+/// table judge it once.
 #[derive(Default)]
 pub struct Naive {
     judged: Kept<(Order, Vec<u32>), Verdict>,
     built: Kept<(Vec<u8>, u16), Vec<u32>>,
     lengths: Kept<Vec<u8>, Vec<usize>>,
     cuts: Kept<Vec<u8>, Vec<usize>>,
+    census: Kept<(Vec<u8>, usize), Vec<(Vec<u8>, usize)>>,
 }
 
 /// What was made last, and from what.
@@ -53,6 +55,8 @@ enum Written {
     Nothing,
     Words(Vec<u32>),
     Bytes(Vec<u8>),
+    /// The bytes of all runs, one run after the other, and a count for each.
+    Runs(Vec<u8>, Vec<u32>),
 }
 
 impl Naive {
@@ -69,6 +73,10 @@ impl Naive {
             Written::Nothing => 0,
             Written::Words(words) => put(&words, &mut left.words),
             Written::Bytes(bytes) => put(&bytes, &mut left.bytes),
+            Written::Runs(runs, counts) => {
+                put(&runs, &mut left.bytes);
+                put(&counts, &mut left.words)
+            }
         };
         (self.success(call, entries), left)
     }
@@ -92,23 +100,26 @@ impl Naive {
                 _ => false,
             },
             9 => {
-                let (needed, there) = match self.written(call) {
-                    Written::Nothing => (0, 0),
-                    Written::Words(words) => (words.len(), lent.words.len()),
-                    Written::Bytes(bytes) => (bytes.len(), lent.bytes.len()),
+                let (words, bytes) = (lent.words.len(), lent.bytes.len());
+                let (short, needed) = match self.written(call) {
+                    Written::Nothing => (false, 0),
+                    Written::Words(result) => (words < result.len(), result.len()),
+                    Written::Bytes(result) => (bytes < result.len(), result.len()),
+                    Written::Runs(runs, counts) => (bytes < runs.len() || words < counts.len(), counts.len()),
                 };
-                return (there < needed).then_some(needed);
+                return short.then_some(needed);
             }
             10 => call.by_steps() && pattern(call).len() == 1,
             11 => return off_heading(&self.profiled(call)),
             12 => not_at_rest(&self.profiled(call)),
+            13 => !(1..=8).contains(&window(call)),
             _ => unreachable!("no refusal {number}"),
         };
         met.then_some(0)
     }
 
-    /// Success gives the number of entries written; checking gives the rules, counting the finds, a Lyndon length itself; reading back adds the chair
-    /// number, a search its tests.
+    /// Success gives the number of entries written, of a census the runs; checking gives the rules, counting the finds, a Lyndon length itself; reading back adds
+    /// the chair number, a search its tests.
     fn success(&mut self, call: &Call, entries: usize) -> Outcome {
         let (count, chair) = match call {
             Call::Check { table } | Call::CheckProfile { table } => (table.len() / 2, 0),
@@ -139,7 +150,7 @@ impl Naive {
         }
     }
 
-    /// How many samples the drive has in which a search is done.
+    /// How many samples the drive has in which a search or a census is done.
     pub fn samples(&mut self, call: &Call) -> usize {
         self.drive(call).len()
     }
@@ -158,6 +169,11 @@ impl Naive {
             }
             Call::ToSteps { text } => Written::Bytes(to_steps(text)),
             Call::FromSteps { text } => Written::Bytes(from_steps(text)),
+            Call::Census { q, .. } => {
+                let drive = self.drive(call);
+                let (runs, counts): (Vec<_>, Vec<_>) = self.census.of((drive, *q), |(drive, q)| census(drive, *q)).into_iter().unzip();
+                Written::Runs(runs.concat(), as_words(&counts))
+            }
             Call::Check { .. } | Call::CheckProfile { .. } | Call::Count { .. } | Call::LyndonLength { .. } => Written::Nothing,
         }
     }
@@ -222,6 +238,7 @@ fn checks(call: &Call) -> impl Iterator<Item = (u32, bool)> {
         Call::ToSteps { .. } | Call::FromSteps { .. } => (&[1, 9], &[]),
         Call::BuildProfile { .. } => (&[1, 11, 12, 4], &[9]),
         Call::CheckProfile { .. } => (&[4, 5, 6], &[7, 11, 12]),
+        Call::Census { .. } => (&[13, 4, 5, 6], &[7, 9]),
     };
     leave.iter().map(|&number| (number, false)).chain(clear.iter().map(|&number| (number, true)))
 }
@@ -261,11 +278,19 @@ fn pattern(call: &Call) -> &[u8] {
     }
 }
 
+/// How many samples a run of the census has.
+fn window(call: &Call) -> usize {
+    match call {
+        Call::Census { q, .. } => *q,
+        _ => 0,
+    }
+}
+
 fn table(call: &Call) -> &[u32] {
     match call {
         Call::Build { .. } | Call::BuildProfile { .. } | Call::Cuts { .. } | Call::ToSteps { .. } | Call::FromSteps { .. } => &[],
         Call::Check { table } | Call::CheckProfile { table } | Call::Read { table } | Call::Extract { table, .. } => table,
         Call::Count { table, .. } | Call::Locate { table, .. } | Call::LyndonLength { table, .. } => table,
-        Call::LyndonArray { table } | Call::ToSigned { table } => table,
+        Call::LyndonArray { table } | Call::ToSigned { table } | Call::Census { table, .. } => table,
     }
 }
