@@ -33,7 +33,7 @@ AGREED = {}
 # each service that a table in the signed order is handed to, with arguments for a profile drive
 PROFILE = b"\0\1\0\1\0"
 SERVICES = [("check",), ("read",), ("extract", 1, 2), ("count", b"\0\1"), ("locate", b"\0\1"), ("lyndon_length", 1), ("lyndon_array",), ("check_profile",)]
-SERVICES += [("count_with_tests", b"\0\1"), ("locate_with_tests", b"\0\1")]
+SERVICES += [("count_with_tests", b"\0\1"), ("locate_with_tests", b"\0\1"), ("census", 2)]
 
 
 class Told(bytes):
@@ -95,6 +95,11 @@ def entries(value: str, digits: int) -> list[int]:
     return result
 
 
+def front(case: dict, name: str, length: int, digits: int) -> list[int]:
+    """So many entries, which a slice of a case has at its front afterwards."""
+    return entries(f"{length}/0:" + case["after " + name].removeprefix("front ").removeprefix("-"), digits)
+
+
 def cases(file: str):
     """The cases that call a service, each a dictionary from a line's first words to the rest."""
     for block in Path(file).read_text().split("\ncase ")[1:]:
@@ -142,6 +147,9 @@ def asked(case: dict, kind):
         case "rearrange":
             text = {"0": sirbolta.to_steps, "1": sirbolta.from_steps}[case["arg inverse"]](drive)
             return len(text), list(text)
+        case "census":
+            pairs = sirbolta.census(table, int(case["arg q"]))
+            return len(pairs), pairs
     raise AssertionError(f"an unknown call: {case['call']}")
 
 
@@ -156,8 +164,8 @@ class Vectors(unittest.TestCase):
                     self.agrees(case, want, KINDS[name])
             service = case["call"] + " in the profile" * ("arg profile" in case)
             AGREED[service] = AGREED.get(service, 0) + 1
-        services = ["build", "build in the profile", "check", "check in the profile", "convert_order", "count", "cuts", "list", "longest", "longest_all", "part"]
-        self.assertEqual(sorted(AGREED), [*services, "read", "rearrange"])
+        services = ["build", "build in the profile", "census", "check", "check in the profile", "convert_order", "count", "cuts", "list", "longest", "longest_all"]
+        self.assertEqual(sorted(AGREED), [*services, "part", "read", "rearrange"])
 
     def agrees(self, case, want, kind):
         if want["no"] == "0":
@@ -165,10 +173,12 @@ class Vectors(unittest.TestCase):
             answer, written = asked(case, kind)
             beside = [int(want[name]) for name in ("chair", "tests") if name in want]
             self.assertEqual(answer, (count, *beside) if beside else count)
-            if written is not None:
-                digits = 2 if case["call"] in ("read", "part", "rearrange") else 8
-                front = case["after result"].removeprefix("front ").removeprefix("-")
-                self.assertEqual(written, entries(f"{count}/0:{front}", digits))
+            if case["call"] == "census":
+                q = int(case["arg q"])
+                runs, counts = front(case, "result", q * count, 2), front(case, "result2", count, 8)
+                self.assertEqual(written, [(bytes(runs[q * i : q * i + q]), counts[i]) for i in range(count)])
+            elif written is not None:
+                self.assertEqual(written, front(case, "result", count, 2 if case["call"] in ("read", "part", "rearrange") else 8))
         else:
             with self.assertRaises(sirbolta.Refusal) as raised:
                 asked(case, kind)
@@ -180,15 +190,17 @@ class Refusals(unittest.TestCase):
 
     NAMES = [
         "TextTooLong", "PatternEmpty", "PatternTooLong", "WorkTooShort", "TableLength", "BadWord", "NotATable", "RangePastEnd", "ResultTooShort", "NoStep",
-        "OffHeading", "NotAtRest",
+        "OffHeading", "NotAtRest", "OddWindow",
     ]
     CONCERNED = {
         "build": [1, 4, 9], "check": [4, 5, 6, 7], "read": [4, 5, 6, 7, 9], "extract": [4, 5, 6, 7, 8, 9], "count": [2, 3, 10, 4, 5, 6, 7],
         "locate": [2, 3, 10, 4, 5, 6, 7, 9], "live_cuts": [2, 3, 9], "lyndon_length": [4, 5, 6, 7, 8], "lyndon_array": [4, 5, 6, 7, 9],
         "to_signed": [4, 5, 6, 7, 9], "to_steps": [1, 9], "from_steps": [1, 9], "build_profile": [1, 11, 12, 4, 9], "check_profile": [4, 5, 6, 7, 11, 12],
+        "census": [13, 4, 5, 6, 7, 9],
     }
     NEEDED = {
         "build": 12, "read": 5, "extract": 3, "locate": 2, "live_cuts": 1, "lyndon_array": 5, "to_signed": 14, "to_steps": 3, "from_steps": 3, "build_profile": 12,
+        "census": 2,
     }
     CHANGED = {
         1: {"samples": bytearray(2048)},
@@ -199,24 +211,26 @@ class Refusals(unittest.TestCase):
         6: {"table": sirbolta.Table([0, 0xC0000000, 257, 0xC0000000])},
         7: {"table": sirbolta.Table([98, 0xC0000000])},
         8: {"start": 5, "length": 1, "position": 5},
-        9: {"_SAMPLES": 0, "_TABLE": 0, "_CUTS": 0},
+        9: {"_SAMPLES": 0, "_TABLE": 0, "_CUTS": 0, "_RUNS": 0},
         10: {"samples": bytearray(1), "steps": True},
         11: {"samples": bytearray(b"\1\xff\x09"), "table": sirbolta.build(b"\1\xff\x09", 40)},
         12: {"samples": bytearray(b"\0\1"), "table": sirbolta.build(b"\0\1", 40)},
+        13: {"q": 9},
     }
 
     def setUp(self):
-        self.usual = {"table": sirbolta.build(PROFILE, 40), "samples": bytearray(b"\0\1\0"), "chair": 40, "start": 0, "length": 3, "position": 2, "steps": False}
+        self.usual = {"table": sirbolta.build(PROFILE, 40), "samples": bytearray(b"\0\1\0"), "chair": 40, "start": 0, "length": 3, "position": 2, "q": 3}
+        self.usual["steps"] = False
         built = sirbolta.Table([0, 0xC0000028, 1, 0xC0000000, 2, 0xC0000000, 0x40000001, 0x80000002, 0x40000000, 0x80000003, 0x40000004, 0x80000001])
         self.answers = {
             "build": built, "check": 7, "read": (PROFILE, 40), "extract": b"\0\1\0", "count": 2, "locate": [0, 2], "live_cuts": [2], "lyndon_length": 2,
             "lyndon_array": [2, 1, 2, 1, 1], "to_signed": self.usual["table"], "to_steps": b"\0\1\xff", "from_steps": b"\0\1\1", "build_profile": built,
-            "check_profile": 7,
+            "check_profile": 7, "census": [(b"\0\1\0", 2), (b"\1\0\1", 1)],
         }
 
     def ask(self, service, given):
         arguments = {"build": ["samples", "chair"], "extract": ["table", "start", "length"], "live_cuts": ["samples"]}
-        arguments |= {"build_profile": ["samples", "chair"], "check_profile": ["table"]}
+        arguments |= {"build_profile": ["samples", "chair"], "check_profile": ["table"], "census": ["table", "q"]}
         arguments |= {"check": ["table"], "read": ["table"], "count": ["table", "samples"], "locate": ["table", "samples"]}
         arguments |= {"lyndon_length": ["table", "position"], "lyndon_array": ["table"], "to_signed": ["table"], "to_steps": ["samples"], "from_steps": ["samples"]}
         named = {"steps": given["steps"]} if service in ("count", "locate") else {}
@@ -244,6 +258,14 @@ class Refusals(unittest.TestCase):
         for service, number in [("live_cuts", 4), ("to_steps", 4), ("from_steps", 4), ("check", 9), ("count", 9), ("lyndon_length", 9), ("check_profile", 9)]:
             with self.subTest(service=service, number=number), patch.multiple(sirbolta, **self.CHANGED[number]):
                 self.assertEqual(self.ask(service, self.usual), self.answers[service])
+
+    def test_either_slice_of_a_census_too_short(self):
+        for name, length in [("_RUNS", 5), ("_SAMPLES", 1)]:
+            with self.subTest(slice=name), patch.object(sirbolta, name, length), self.assertRaises(sirbolta.ResultTooShort) as raised:
+                self.ask("census", self.usual)
+            self.assertEqual(raised.exception.place, 2)
+        with patch.multiple(sirbolta, _RUNS=6, _SAMPLES=2):
+            self.assertEqual(self.ask("census", self.usual), self.answers["census"])
 
     def test_each_has_a_number_and_a_sentence(self):
         for number, name in enumerate(self.NAMES, 1):
@@ -301,6 +323,15 @@ class Module(unittest.TestCase):
         self.assertRaises(sirbolta.TableLength, sirbolta.lyndon_length, [], 2**64)
         self.assertEqual([sirbolta.lyndon_length(self.table, position) for position in range(4)], [2, 1, 2, 1])
 
+    def test_runs_of_any_size(self):
+        for q in [0, 9, -1, -8, 255, 256, 257, 2**32 + 1, 2**64 - 1, 2**64, 2**64 + 1, -(2**64) + 1, 10**5000, -(10**5000)]:
+            for table in self.table, []:
+                with self.subTest(bits=q.bit_length(), negative=q < 0), self.assertRaises(sirbolta.OddWindow) as raised:
+                    sirbolta.census(table, q)
+                self.assertEqual(raised.exception.place, 0)
+        self.assertEqual([len(sirbolta.census(self.table, q)) for q in range(1, 9)], [2, 2, 2, 1, 0, 0, 0, 0])
+        self.assertEqual([sirbolta.census(sirbolta.build(b"", 40), q) for q in range(1, 9)], [[]] * 8)
+
     def test_other_types(self):
         words = self.table.words
         for table in ["", "abab", {}, dict.fromkeys(words), set(), frozenset(words), iter(words), None, 4]:
@@ -315,6 +346,7 @@ class Module(unittest.TestCase):
             self.wrong_type(sentence, sirbolta.lyndon_array, table)
             self.wrong_type(sentence, sirbolta.to_signed, table)
             self.wrong_type(sentence, sirbolta.check_profile, table)
+            self.wrong_type(sentence, sirbolta.census, table, 2)
         for table in [array("i"), array("H"), array("Q"), array("f"), (ctypes.c_uint32.__ctype_be__ * 2)()]:
             sentence = f"a table's buffer has single bytes or unsigned words of 32 bits, not the format {memoryview(table).format}"
             self.wrong_type(sentence, sirbolta.Table, table)
@@ -343,6 +375,7 @@ class Module(unittest.TestCase):
             self.wrong_type(f"start is a whole number, not {kind}", sirbolta.extract, self.table, number, 0)
             self.wrong_type(f"length is a whole number, not {kind}", sirbolta.extract, self.table, 0, number)
             self.wrong_type(f"position is a whole number, not {kind}", sirbolta.lyndon_length, self.table, number)
+            self.wrong_type(f"q is a whole number, not {kind}", sirbolta.census, self.table, number)
             self.wrong_type(f"a word of a table is a whole number, not {kind}", sirbolta.check, [0, number])
 
     def wrong_type(self, sentence, service, *arguments, **named):
@@ -375,6 +408,7 @@ class Module(unittest.TestCase):
         self.assertEqual([1536 - cut for cut in cuts], [1535, 767, 383, 191, 95, 47, 23, 11, 5, 2, 1])
         self.assertEqual(sirbolta.to_steps(text), bytes([128] + [i % 8 == 0 for i in range(1, 2047)]))
         self.assertEqual(sirbolta.from_steps(sirbolta.to_steps(text)), text)
+        self.assertEqual(sirbolta.census(table, 8), [(text[i : i + 8], 1) for i in range(2040)])  # it rises, so its runs do
 
     def test_live_cuts_that_are_left_out(self):
         for pattern, cuts in [(b"aaaa", [1, 3]), (b"bababab", [1, 5]), (b"baabaabaab", [1, 7]), (b"baabaabaa", [1, 7, 8]), (bytes(2047), [1, 2046])]:
@@ -385,6 +419,15 @@ class Module(unittest.TestCase):
         self.assertEqual(sirbolta.lyndon_array(sirbolta.build(edges, 40)), [4, 3, 2, 1])
         self.assertEqual(sirbolta.lyndon_array(sirbolta.build(edges[::-1], 40)), [1, 1, 1, 1])
         self.assertEqual((sirbolta.live_cuts(bytes([0, 127, 128])), sirbolta.live_cuts(bytes([0, 255, 1]))), ([2], [1]))
+
+    def test_a_census_of_signed_numbers(self):
+        text = bytes(i * i * 40503 >> 7 & 255 for i in range(2047))
+        for q in 1, 2, 8:
+            runs = [text[i : i + q] for i in range(2048 - q)]
+            listed = sorted(set(runs), key=lambda run: list(memoryview(run).cast("b")))
+            self.assertEqual(sirbolta.build(text, 40).census(q), [(run, runs.count(run)) for run in listed])
+        for sample in 0, 127, 128, 255:
+            self.assertEqual([sirbolta.build(bytes([sample]) * 2047, 40).census(q) for q in (1, 8)], [[(bytes([sample]) * q, 2048 - q)] for q in (1, 8)])
 
     def test_former_tables(self):
         for text in [bytes([255, 1]), bytes([1, 255]), bytes(i * i * 40503 >> 7 & 255 for i in range(2047)), bytes(i // 8 ^ 128 for i in range(2047))]:
@@ -606,6 +649,7 @@ class Lending(unittest.TestCase):
         self.given_back(sirbolta.from_steps, array("I", [0]))
         self.given_back(sirbolta.build_profile, bytearray(b"\1"), 40)
         self.given_back(sirbolta.check_profile, bytearray(words))
+        self.given_back(sirbolta.census, bytearray(words), 9)
 
     def given_back(self, service, buffer, *arguments):
         try:
@@ -654,7 +698,7 @@ class Lending(unittest.TestCase):
 
 
 class Stacks(unittest.TestCase):
-    """`read` and `locate` on threads with a stack that is large enough, and on one that is not."""
+    """`read`, `locate` and `census` on threads with a stack that is large enough, and on one that is not."""
 
     TEXTS = [b"a" * 2047, b"a" * 2046 + b"b", bytes(i // 8 ^ 128 for i in range(2047))]
 
@@ -664,11 +708,13 @@ class Stacks(unittest.TestCase):
             self.assertEqual(table.read(), (text, 40))
             self.assertEqual(table.locate(text[:1]), [i for i in range(2047) if text[i] == text[0]])
             self.assertRaises(sirbolta.PatternEmpty, table.locate, b"")
+            self.assertEqual(sum(count for _, count in table.census(8)), 2040)
 
     def refused(self):
         table = sirbolta.build(self.TEXTS[0], 40)
-        self.assertRaisesRegex(RuntimeError, "240 KiB of stack are needed, and this thread has 12[0-9] KiB in all", table.read)
-        self.assertRaisesRegex(RuntimeError, "240 KiB of stack are needed, and this thread has 12[0-9] KiB in all", table.locate, b"a")
+        for service, *arguments in [("read",), ("locate", b"a"), ("census", 8)]:
+            needed = f"up to {sirbolta._native.NEEDED} KiB of stack are needed, and this thread has 12[0-9] KiB in all"
+            self.assertRaisesRegex(RuntimeError, needed, getattr(table, service), *arguments)
         self.assertEqual((table.check(), table.count(b"a"), table.extract(2046, 1)), (2049, 2047, b"a"))
         self.assertEqual((sirbolta.build_profile(bytes(2047), 40).check_profile(), sirbolta.build(bytes(2047), 40).check_profile()), (2049, 2049))
         self.assertEqual((table.lyndon_length(0), table.lyndon_array(), table.to_signed()), (1, [1] * 2047, table))
