@@ -1,15 +1,17 @@
 //! One call of a service under callgrind: `bench SIDE SERVICE FAMILY SAMPLES [PATTERN [KIND]]`. SIDE is `library` or `rust`; SERVICE is `build`,
-//! `check`, `read`, `copied` (reading, beside a Rust that copies the text), `extract` (the whole text), `count`, `locate`, `cuts` (the live cuts of
-//! the pattern that a search tries), `lyndon_length` (at the first position), `lyndon_array`, `to_signed` (of the former table), `to_steps`,
-//! `from_steps` (of the text that is rearranged), `build_profile`, `check_profile`, or `doubling`: the check of a table of SAMPLES rules that
+//! `check`, `read`, `copied` (reading, beside a Rust that copies the text), `extract` (the whole text), `count`, `locate`, `cuts` (the live cuts
+//! of the pattern that a search tries), `lyndon_length` (at the first position), `lyndon_array`, `to_signed` (of the former table), `to_steps`,
+//! `from_steps` (of the text that is rearranged), `build_profile`, `check_profile`, `census` (of the runs that have as many samples as the
+//! pattern), `lists` (the positions of each of the 256 samples, by a call for each), or `doubling`: the check of a table of SAMPLES rules that
 //! double. With `count:steps` and `locate:steps` the text is rearranged before its table is built, and the pattern searched by its steps; with
 //! `count:samples` and `locate:samples` the pattern's steps are searched in that table, as samples. FAMILY 100 + m is a block of m random bytes,
 //! repeated. The pattern is the PATTERN samples in the middle of the text; with the KIND `nested` so many nested samples; with @i as KIND so many
-//! from position i on; and with a number k so many that are a^k, then b up to the last one, and a. It prints the answer, the number of tests, and a
-//! checksum of each lent slice afterwards, which `bench/run` compares between the sides. The lent slices hold other values before the call. The
+//! from position i on; and with a number k so many that are a^k, then b up to the last one, and a. It prints the answer, the number of tests, and
+//! a checksum of each lent slice afterwards, which `bench/run` compares between the sides. The lent slices hold other values before the call. The
 //! SERVICE `compared` calls nothing: it prints how many pairs of samples the Rust side compares to list the pattern's cuts.
 
 mod baseline;
+mod census;
 mod compared;
 #[path = "../tests/former.rs"]
 mod former;
@@ -47,7 +49,7 @@ struct Lent {
 }
 
 fn lent() -> Lent {
-    Lent { work: vec![0xA5A5A5A5; 16384], words: vec![0xA5A5A5A5; 4608], bytes: vec![0xA5; 2048] }
+    Lent { work: vec![0xA5A5A5A5; 16384], words: vec![0xA5A5A5A5; 4608], bytes: vec![0xA5; 16320] }
 }
 
 #[no_mangle]
@@ -75,6 +77,11 @@ fn measured_library(given: &Given, lent: &mut Lent) -> Found {
             "from_steps" => replied(sirbolta_from_steps(text, n, bytes, b)),
             "build_profile" => replied(sirbolta_build_profile(text, n, CHAIR, work, w, words, k)),
             "check_profile" => replied(sirbolta_check_profile(table, m, work, w)),
+            "census" => replied(sirbolta_census(table, m, p, work, w, bytes, b, words, k)),
+            "lists" => {
+                let list = |sample: u8| sirbolta_locate(table, m, 0, &sample, 1, work, w, words, k).count;
+                baseline::done((0..=255).map(list).sum::<u64>() as usize, 0).into()
+            }
             service => panic!("no service {service}"),
         }
     }
@@ -109,6 +116,8 @@ fn measured_rust(given: &Given, lent: &mut Lent) -> Found {
         "from_steps" => steps::from_steps(text, bytes).into(),
         "build_profile" => profile::build_profile(text, CHAIR, work, words).into(),
         "check_profile" => profile::check_profile(table, work).into(),
+        "census" => census::census(table, pattern.len(), work, bytes, words).into(),
+        "lists" => census::lists(table, work, words).into(),
         service => panic!("no service {service}"),
     }
 }
