@@ -133,13 +133,21 @@ impl Comparison {
         }
     }
 
-    /// Censuses: of every text of the four samples at the ends of both orders up to 4 samples, for every q up to one more; of other texts for any q, and of tables made
-    /// from theirs; of the longest texts with one run, the greatest among them, with 2,040, of which none stands twice, and with few.
+    /// Censuses: of every text of the four samples at the ends of both orders up to 4 samples, for every q up to one more; of texts of one sample less than q, of q and
+    /// of one more; of other texts for any q, and of tables made from theirs; of the longest texts with one run, the greatest among them, with 2,040, of which none
+    /// stands twice, and with few.
     fn censuses(mut self) -> Tally {
         for text in (0..=4).flat_map(|n| every_text(&[0, 127, 128, 255], n)) {
             let table = self.table_of(&text, 40);
             for q in 0..=text.len() + 1 {
                 self.compare_once(Call::Census { table: table.clone(), q });
+            }
+        }
+        for (q, n) in (1..=8).flat_map(|q| [(q, q - 1), (q, q), (q, q + 1)]) {
+            for _ in 0..4 {
+                let text = self.generator.text(n);
+                let table = self.table_of(&text, 40);
+                self.census(&table, q);
             }
         }
         for _ in 0..400 {
