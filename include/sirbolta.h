@@ -22,7 +22,7 @@
  *   - each pointer is valid for its length, and a pointer to words is aligned to 4 bytes;
  *   - the slices that are written, work, result, runs and counts, overlap neither one another nor an input.
  * Everything else is checked. Inputs are never written, nothing is allocated and nothing is kept between calls, so threads may call at the
- * same time, each with slices of its own. Reading back and locating take up to 240 KiB of stack, a census up to 300, every other service less
+ * same time, each with slices of its own. Reading back and locating take up to 240 KiB of stack, a census up to 280, every other service less
  * than 4 KiB: some C libraries give a thread 128 KiB, so a thread for these three is started with more (pthread_attr_setstacksize).
  *
  * A reply's number is 0 on success; otherwise it is the first in this list that is met and concerns the service:

@@ -1,4 +1,4 @@
-//! Every service on the longest texts, in a thread with a stack of 512 KiB, and in one that has little more than the library takes: 352 KiB for the 300 of a census,
+//! Every service on the longest texts, in a thread with a stack of 512 KiB, and in one that has little more than the library takes: 332 KiB for the 280 of a census,
 //! 288 for the 240 of reading back and locating, 32 for the others, which take less than 4. The texts: equal samples, whose Lyndon tree is deep to the left; two
 //! whose tree is deep to the right, of which the rising one has the largest table; and one that is neither. Prints how many calls were right.
 
@@ -12,7 +12,7 @@ use std::collections::BTreeMap;
 const CHAIR: u16 = 65535;
 
 fn main() {
-    for size in [512, 352] {
+    for size in [512, 332] {
         println!("stack: {} calls in {size} KiB", within(size, |text| flat(text) + deep(text) + census(text)));
     }
     println!("stack: {} calls in 288 KiB, without the census", within(288, |text| flat(text) + deep(text)));

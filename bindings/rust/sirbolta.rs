@@ -7,7 +7,7 @@
 //! stands at the front of the result slice and the rest is as it was; after a refusal all of it is as it was. A census has two, of which the same holds: where
 //! either is too short, both are as they were. The work slice is as it was after `WorkTooShort`, `TableLength`, `BadWord` and any refusal whose check comes
 //! before these, so also after `OffHeading` and `NotAtRest` of `build_profile`; after the others, so also after these two of `check_profile`, and after success
-//! its first `WORK` words are 0 and the rest is as it was. Reading back and locating take up to 240 KiB of stack, a census up to 300, every other service less
+//! its first `WORK` words are 0 and the rest is as it was. Reading back and locating take up to 240 KiB of stack, a census up to 280, every other service less
 //! than 4 KiB: a thread for these three wants a stack above that, as Rust's own have.
 //!
 //! Samples are compared as signed numbers, a byte of 128 or more meaning itself minus 256. A former table is one that was built while they were compared as

@@ -35,7 +35,7 @@ TypeError; a negative number, a word or chair number with too many bits, or byte
 census's runs may be any whole number: `OddWindow` says which are refused.
 
 Threads may call at the same time, and the interpreter's lock is free while the library works. A thread has one work slice of 64 KiB for all its calls.
-`read`, `locate` and `census` take up to 300 KiB of stack. On a thread that was started with a stack below 512 KiB they raise RuntimeError and call nothing;
+`read`, `locate` and `census` take up to 280 KiB of stack. On a thread that was started with a stack below 512 KiB they raise RuntimeError and call nothing;
 on any other so much must be left, which is not looked at: calls nested very deeply in Python can use it up.
 
 The library is the file that the environment variable SIRBOLTA_LIBRARY names, or else `libsirbolta.so` inside this package, or else the one in the

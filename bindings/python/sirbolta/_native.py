@@ -12,7 +12,7 @@ from typing import Any
 INTERFACE = 3
 WORK = 16_384  # the words of a work slice
 STACK = 512 << 10  # bytes: on a smaller stack reading back, locating and a census are not called
-NEEDED = 300  # KiB: what these take of it at most
+NEEDED = 280  # KiB: what these take of it at most
 
 
 class Reply(ctypes.Structure):

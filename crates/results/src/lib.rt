@@ -23,13 +23,12 @@ pub fn result_fits(needed: usize, n: usize) -> Answer
 pub fn both_fit(first: usize, n: usize, second: usize, m: usize) -> Answer
     ensures { λ r. ⌜ r ≡ checked (eitherTooShort first n second m) second ⌝ }
 {
-    if n < first {
-        return Answer::Refused(9, second);
+    if first <= n {
+        if second <= m {
+            return Answer::Done(second);
+        }
     }
-    if m < second {
-        return Answer::Refused(9, second);
-    }
-    Answer::Done(second)
+    Answer::Refused(9, second)
 }
 
 // Refusal 8 of so many samples from `start` on in a text of n samples, or how many they are.

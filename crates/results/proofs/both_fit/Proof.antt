@@ -5,18 +5,18 @@ use Rattle.results.proofs.both_fit.Tie as tie
 
 returns : tie.Need-returns
 returns c =
-    let a = c .before .args in
-    simp (lt-ltb (a .n) (a .first) (c .if1 .taken))
+    let a = c .before .before .args in
+    simp (le-ltb (a .n) (a .first) (c .before .if1 .taken), le-ltb (a .m) (a .second) (c .if2 .taken))
 
 returns-2 : tie.Need-returns-2
 returns-2 c =
     let a = c .before .before .args in
-    simp (le-ltb (a .n) (a .first) (c .before .if1 .left), lt-ltb (a .m) (a .second) (c .if2 .taken))
+    simp (le-ltb (a .n) (a .first) (c .before .if1 .taken), lt-ltb (a .m) (a .second) (c .if2 .left))
 
 returns-3 : tie.Need-returns-3
 returns-3 c =
-    let a = c .before .before .args in
-    simp (le-ltb (a .n) (a .first) (c .before .if1 .left), le-ltb (a .m) (a .second) (c .if2 .left))
+    let a = c .before .args in
+    simp (lt-ltb (a .n) (a .first) (c .if1 .left))
 
 pub both-fit-spec : {M : Type 1} → statement M
 both-fit-spec = tie.close (tie.spec returns returns-2 returns-3)

@@ -28,10 +28,10 @@ size c = let a = c .before .before .before .before .before .args in sym (runs-le
 
 returns : tie.Need-returns
 returns c =
-    let f = c .before .before in
-    let s = f .before .before .before .before .before in
+    let u = c .before .before in
+    let s = u .before .before .before .before .before in
     let a = s .args in
-    both-refused (wanted f) (a .numbers .now) (a .runs .now) (a .counts .now) (a .q * length (a .listed .now)) (length (a .listed .now)) (size f) (sym (s .pre .2)) (f .both-fit .result) (f .both-fit .ensures) (c .enum-told2 .given .1)
+    both-refused (wanted u) (a .numbers .now) (a .runs .now) (a .counts .now) (a .q * length (a .listed .now)) (length (a .listed .now)) (size u) (sym (s .pre .2)) (u .both-fit .result) (u .both-fit .ensures) (c .enum-told2 .given .1)
 
 -- both fit
 room : (c : tie.After-enum-told) → let a = c .before .before .before .before .before .before .before .args in (length (wanted (c .before .before)) ≤ length (a .runs .now)) × (length (a .numbers .now) ≤ length (a .counts .now))
