@@ -2,8 +2,9 @@
 use mathlib.Core.Path.{_≡_, refl, sym, _∙_, ap}
 use mathlib.Core.Bool.{Bool, true, false, cond}
 use mathlib.Core.List.{List, [], _∷_, _++_}
-use Prim.Native.Nat.{ℕ, zero, suc, _+_, _-_, _/_, _%_, _≤_, _<_}
+use Prim.Native.Nat.{ℕ, zero, suc, _+_, _-_, _/_, _%_, _^_, _≤_, _<_}
 use native.Mathlib.Omega.{arith}
+use native.Mathlib.Nat.{pow-suc}
 use lib.ListN.{length, set, length-append}
 use lib.Dec.{ltb}
 use borrow.Author.Tests.{lt-ltb, le-ltb}
@@ -54,12 +55,28 @@ count-ends n rest h =
     let e : 10 - n ≡ 0 = omega arith in
     ap (λ (k : ℕ). digitsUpTo k rest) e
 
-line-length : (n : ℕ) → length (line (decimal n)) ≡ digitCount n + 1
-unfolding line decimal
-line-length n = length-append (digits (digitCount n) n) (10 ∷ []) ∙ ap (λ (k : ℕ). k + 1) (digits-length (digitCount n) n)
+pub decimal-length : (n : ℕ) → length (decimal n) ≡ digitCount n
+unfolding decimal
+decimal-length n = digits-length (digitCount n) n
 
 pub line-most : (n : ℕ) → length (line (decimal n)) ≤ 11
-line-most n = omega (arith, line-length n, count-range n .1)
+unfolding line
+line-most n = omega (arith, length-append (decimal n) (10 ∷ []), decimal-length n, count-range n .1)
+
+-- below 10, below 100 and so on: one digit, two and so on
+digits-most : (m k n : ℕ) → n < 10 ^ suc k → digitsUpTo m n ≤ suc k
+unfolding digitsUpTo
+digits-most zero k n h = omega arith
+digits-most (suc m) zero n h = rw (lt-ltb n 10 h) (omega arith)
+digits-most (suc m) (suc k) n h = go (ltb n 10) (digits-most m k (n / 10) (omega (arith, pow-suc 10 (suc k))))
+  where
+    go : (b : Bool) → digitsUpTo m (n / 10) ≤ suc k → cond b 1 (suc (digitsUpTo m (n / 10))) ≤ suc (suc k)
+    go true l = omega arith
+    go false l = omega arith
+
+pub decimal-most : (k n : ℕ) → n < 10 ^ suc k → length (decimal n) ≤ suc k
+unfolding digitCount
+decimal-most k n h = omega (arith, decimal-length n, digits-most 9 k n h)
 
 -- ---- digits from the last to the first
 
@@ -81,18 +98,22 @@ digits-none i n out e = ap (λ (k : ℕ). placed (digits k n) out) e ∙ placed-
 
 -- ---- what the functions leave
 
+-- bytes, and one more behind them
+one-stored : (x : ℕ) (l old out : List ℕ) (k : ℕ) → length l < length old → k ≡ length l → out ≡ placed l old
+    → (k + 1 ≡ length (l ++ (x ∷ []))) × (set out k x ≡ placed (l ++ (x ∷ [])) old)
+one-stored x l old out k h e f = (
+  omega (arith, length-append l (x ∷ [])),
+  ap (λ (o : List ℕ). set o k x) f ∙ ap (λ (m : ℕ). set (placed l old) m x) e ∙ sym (placed-more l old x h),
+)
+
 -- what stands in a line, and the byte that ends it
 pub line-stored : (l old out : List ℕ) (k : ℕ) → length l < length old → k ≡ length l → out ≡ placed l old
     → (k + 1 ≡ length (line l)) × (set out k 10 ≡ placed (line l) old)
 unfolding line
-line-stored l old out k h e f = (
-  omega (arith, length-append l (10 ∷ [])),
-  ap (λ (o : List ℕ). set o k 10) f ∙ ap (λ (m : ℕ). set (placed l old) m 10) e ∙ sym (placed-more l old 10 h),
-)
+line-stored l old out k h e f = one-stored 10 l old out k h e f
 
-pub decimal-stored : (n k : ℕ) (old out : List ℕ) → 11 ≤ length old → k ≡ digitCount n → out ≡ placed (digits k n) old
-    → (k + 1 ≡ length (line (decimal n))) × (set out k 10 ≡ placed (line (decimal n)) old)
+pub decimal-stored : (n x k : ℕ) (old out : List ℕ) → length (decimal n) < length old → k ≡ digitCount n → out ≡ placed (digits k n) old
+    → (k + 1 ≡ length (decimal n ++ (x ∷ []))) × (set out k x ≡ placed (decimal n ++ (x ∷ [])) old)
 unfolding decimal
-decimal-stored n k old out h e f =
-    let size = digits-length (digitCount n) n in
-    line-stored (decimal n) old out k (omega (arith, size, count-range n .1)) (omega (arith, size)) (f ∙ ap (λ (m : ℕ). placed (digits m n) old) e)
+decimal-stored n x k old out h e f =
+    one-stored x (decimal n) old out k h (omega (arith, digits-length (digitCount n) n)) (f ∙ ap (λ (m : ℕ). placed (digits m n) old) e)

@@ -1,6 +1,7 @@
-// A number in decimal on a line, written at the front of a lent slice. It takes at most ten digits.
+// A number in decimal, with the end of its line or another byte behind it, written at the front of a lent slice. It takes at most ten digits.
 ghost use mathlib.Core.Path.{_≡_};
-ghost use Prim.Native.Nat.{_≤_};
+ghost use mathlib.Core.List.{[], _∷_, _++_};
+ghost use Prim.Native.Nat.{_≤_, _<_};
 ghost use lib.ListN.{length};
 ghost use Rattle.definitions.specs.Words.{placed};
 ghost use Rattle.definitions.specs.Programs.{digits, digitCount, decimal, line};
@@ -11,9 +12,18 @@ pub fn put_decimal_line(number: usize, out: &mut [u8]) -> usize
     ensures { λ n. ⌜ n ≡ length (line (decimal number)) ⌝ }
     ensures { λ _. ⌜ now (out .exit) ≡ placed (line (decimal number)) (now (out .entry)) ⌝ }
 {
+    put_decimal(number, 10, out)
+}
+
+// Writes a number and a byte behind it, and answers how many bytes that is.
+pub fn put_decimal(number: usize, behind: u8, out: &mut [u8]) -> usize
+    requires { ⌜ length (decimal number) < length (now out) ⌝ }
+    ensures { λ n. ⌜ n ≡ length (decimal number ++ (behind ∷ [])) ⌝ }
+    ensures { λ _. ⌜ now (out .exit) ≡ placed (decimal number ++ (behind ∷ [])) (now (out .entry)) ⌝ }
+{
     let n = digit_count(number);
     put_digits(number, n, out);
-    out[n] = 10;
+    out[n] = behind;
     n + 1
 }
 

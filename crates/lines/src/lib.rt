@@ -1,5 +1,6 @@
 // Lines of text gathered in a lent slice: each function writes at the front of `out`, leaves the rest and answers how many bytes it wrote, so
 // that the caller lends on the rest.
+use decimals::put_decimal;
 use decimals::put_decimal_line;
 use definitions::Answer;
 use slices::wide;
@@ -7,7 +8,7 @@ ghost use mathlib.Core.Path.{_≡_};
 ghost use Prim.Native.Nat.{_+_, _*_, _≤_, _<_};
 ghost use lib.ListN.{length};
 ghost use Rattle.definitions.specs.Words.{placed};
-ghost use Rattle.definitions.specs.Programs.{decimal, line, named, linesOf};
+ghost use Rattle.definitions.specs.Programs.{decimal, line, named, linesOf, spaced};
 ghost use Rattle.lines.specs.Lines.{refusal};
 
 // Numbers, each on a line.
@@ -46,6 +47,21 @@ pub fn put_named(name: &[u8], number: usize, out: &mut [u8]) -> usize
     let n = put_bytes(name, out);
     let m = put_decimal_line(number, &mut out[n..]);
     n + m
+}
+
+// Bytes as numbers, with a space behind each.
+pub fn put_spaced(bytes: &[u8], out: &mut [u8]) -> usize
+    requires { ⌜ 4 * length (now bytes) ≤ length (now out) ⌝ }
+    ensures { λ n. ⌜ n ≡ length (spaced (now (bytes .entry))) ⌝ }
+    ensures { λ _. ⌜ now (out .exit) ≡ placed (spaced (now (bytes .entry))) (now (out .entry)) ⌝ }
+{
+    let mut i = 0;
+    let mut n = 0;
+    while i < bytes.len() {
+        n += put_decimal(bytes[i] as usize, 32, &mut out[n..]);
+        i += 1;
+    }
+    n
 }
 
 // A line of bytes.

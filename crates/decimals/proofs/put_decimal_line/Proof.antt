@@ -1,32 +1,19 @@
--- `put_decimal_line` writes the digits of a number, and the byte that ends the line behind them.
+-- `put_decimal_line` writes a number and the byte that ends a line.
 use native.Mathlib.Omega.{arith}
 use borrow.Author.Needs.{needs}
-use Rattle.decimals.proofs.Digits.{count-range, decimal-stored}
+use Rattle.definitions.specs.Programs.{line}
+use Rattle.decimals.proofs.Digits.{count-range, decimal-length}
 use Rattle.decimals.proofs.put_decimal_line.Statement.{statement}
 use Rattle.decimals.proofs.put_decimal_line.Tie as tie
 
-put-digits-requires : tie.Need-put-digits-requires
-put-digits-requires c κs =
-    let d = c .before in
-    omega (arith, d .digit-count .ensures, count-range (d .before .before .args .number))
-
-slice-write-out : tie.Need-slice-write-out
-slice-write-out c =
-    let p = c .before .before in
-    let d = p .before .before in
-    omega (arith, d .digit-count .ensures, count-range (d .before .before .args .number), p .put-digits .kept .1 .1 .0)
-
-add-result : tie.Need-add-result
-add-result c =
-    let d = c .before .before .before .before in
-    omega (arith, d .digit-count .ensures, count-range (d .before .before .args .number))
+put-decimal-requires : tie.Need-put-decimal-requires
+put-decimal-requires c κs =
+    let s = c .before .before in
+    omega (arith, s .pre, decimal-length (s .args .number), count-range (s .args .number) .1)
 
 returns : tie.Need-returns
-returns c =
-    let p = c .before .before in
-    let d = p .before .before in
-    let s = d .before .before in
-    decimal-stored (s .args .number) (d .digit-count .result) (s .args .out .now) (p .put-digits .last .1 .1 .0) (s .pre) (d .digit-count .ensures) (p .put-digits .ensures)
+unfolding line
+returns c = c .before .before .put-decimal .ensures
 
 pub put-decimal-line-spec : {M : Type 1} → statement M
-put-decimal-line-spec = tie.close (tie.spec (λ c κs. search needs) put-digits-requires slice-write-out add-result (λ c. search needs) returns)
+put-decimal-line-spec = tie.close (tie.spec put-decimal-requires (λ c. search needs) returns)

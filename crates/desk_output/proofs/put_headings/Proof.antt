@@ -2,17 +2,19 @@
 use mathlib.Core.Path.{_≡_, refl}
 use Prim.Native.Nat.{_+_, _-_, _≤_}
 use native.Mathlib.Omega.{arith}
-use lib.ListN.{length, take, getD, length-take, length-drop}
-use Rattle.definitions.specs.Programs.{linesOf, headingName}
+use lib.ListN.{length, getD, length-take, length-drop}
+use Rattle.definitions.specs.Programs.{headingName}
 use Rattle.lists.specs.Lists.{Fronted}
-use Rattle.lines.proofs.Lines.{lines-none, lines-room, lines-stored, lines-all}
+use Rattle.lines.specs.Turns.{turns}
+use Rattle.lines.proofs.Turns.{turns-none, turns-room, turns-stored, turns-all}
+use Rattle.lines.proofs.Lines.{lineAt, lines-turns}
 use Rattle.desk_output.proofs.Names.{name-most}
 use Rattle.desk_output.proofs.put_headings.Statement.{statement}
 use Rattle.desk_output.proofs.put_headings.Tie as tie
 
 abbrev Inv-loop : tie.InvT-loop
 Inv-loop headings out₀ i₀ n₀ out i n =
-    (i ≤ length headings) × (length out ≡ length out₀) × Fronted (linesOf headingName (take i headings)) out₀ n out
+    (i ≤ length headings) × (length out ≡ length out₀) × Fronted (turns (lineAt headingName headings) i) out₀ n out
 
 abbrev μ-loop : tie.MeasureT-loop
 μ-loop headings out₀ i₀ n₀ out i n = length headings - i
@@ -20,14 +22,14 @@ abbrev μ-loop : tie.MeasureT-loop
 loop-holds : tie.Need-loop-holds Inv-loop μ-loop
 loop-holds c =
     let a = c .before .before .args in
-    (omega arith, refl, lines-none headingName (a .headings .now) (a .out .now))
+    (omega arith, refl, turns-none (lineAt headingName (a .headings .now)) (a .out .now))
 
 -- there is room for one more
 room : (t : tie.After-shared-slice-known2 Inv-loop μ-loop) → t .before .before .loop .n + 14 ≤ length (t .before .before .before .before .before .args .out .now)
 room t =
     let at = t .before .before in
     let s = at .before .before .before in
-    lines-room headingName (s .args .headings .now) 14 name-most (at .loop .i) (t .before .loop-test .taken) (s .pre) (at .loop .inv .2)
+    turns-room (lineAt headingName (s .args .headings .now)) 14 (at .loop .i) (length (s .args .headings .now)) (λ j h. name-most (getD (s .args .headings .now) j 0)) (t .before .loop-test .taken) (s .pre) (at .loop .inv .2)
 
 sub-put-heading : tie.Need-sub-put-heading Inv-loop μ-loop
 sub-put-heading c = omega (arith, room c)
@@ -49,14 +51,14 @@ loop-again c =
     let t = l .before .before in
     let at = t .before .before in
     let a = at .before .before .before .args in
-    let more = lines-stored headingName (a .headings .now) (at .loop .i) (omega arith) (omega (arith, room t, name-most (getD (a .headings .now) (at .loop .i) 0))) refl (at .loop .inv .2) (l .put-heading .ensures .0) (l .put-heading .ensures .1) in
+    let more = turns-stored (lineAt headingName (a .headings .now)) (at .loop .i) refl (omega (arith, room t, name-most (getD (a .headings .now) (at .loop .i) 0))) (at .loop .inv .2) (l .put-heading .ensures .0) (l .put-heading .ensures .1) in
     (omega arith, more .0, more .1)
 
 returns : tie.Need-returns Inv-loop μ-loop
 returns c =
     let at = c .before in
-    let a = at .before .before .before .args in
-    lines-all headingName (a .headings .now) (at .loop .i) (omega arith) (at .loop .inv .2)
+    let headings = at .before .before .before .args .headings .now in
+    turns-all (lineAt headingName headings) (at .loop .i) (length headings) (omega arith) (lines-turns headingName headings) (at .loop .inv .2)
 
 pub put-headings-spec : {M : Type 1} → statement M
 put-headings-spec =

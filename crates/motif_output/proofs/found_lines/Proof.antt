@@ -3,7 +3,8 @@ use native.Mathlib.Omega.{arith}
 use lib.ListN.{length, length-take, length-drop}
 use borrow.Author.Needs.{needs}
 use Rattle.definitions.specs.Programs.{decimal, named, linesOf, foundName, foundLines}
-use Rattle.lines.proofs.Lines.{named-most, decimals-most, both-stored}
+use Rattle.lines.proofs.Turns.{both-stored}
+use Rattle.lines.proofs.Lines.{named-most, decimals-most}
 use Rattle.motif_output.proofs.found_lines.Statement.{statement}
 use Rattle.motif_output.proofs.found_lines.Tie as tie
 

@@ -3,7 +3,8 @@ use native.Mathlib.Omega.{arith}
 use lib.ListN.{length-take, length-drop}
 use borrow.Author.Needs.{needs}
 use Rattle.definitions.specs.Programs.{named, rulesName, foundLines}
-use Rattle.lines.proofs.Lines.{named-most, both-stored}
+use Rattle.lines.proofs.Turns.{both-stored}
+use Rattle.lines.proofs.Lines.{named-most}
 use Rattle.motif_output.proofs.Printing.{found-most}
 use Rattle.motif_output.proofs.rules_and_found.Statement.{statement}
 use Rattle.motif_output.proofs.rules_and_found.Tie as tie
