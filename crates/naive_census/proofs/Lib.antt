@@ -1,0 +1,2 @@
+pub mod Distinct
+pub mod Standing
