@@ -1,5 +1,5 @@
 -- How long is what a loop writes turn by turn (`turns-most`), and how it stands at the front of a slice: nothing at first (`turns-none`), room for one turn more
--- (`turns-room`), one turn more in the rest of the slice (`turns-stored`), and all (`turns-all`).
+-- (`turns-spare`, `turns-room`), one turn more in the rest of the slice (`turns-stored`), and all (`turns-all`).
 use mathlib.Core.Path.{_≡_, refl, sym, _∙_, ap}
 use mathlib.Core.List.{List, [], _++_, append-assoc, append-nil}
 use Prim.Native.Nat.{ℕ, zero, suc, _+_, _-_, _*_, _≤_, _<_}
@@ -34,8 +34,12 @@ both-stored u v old w z n m h e f g i =
 
 -- what is written, with old there before, once i turns have given n bytes
 module _ (f : ℕ → List ℕ) {old w : List ℕ} where
+  -- room for one turn more, and so many bytes besides
+  pub turns-spare : (k spare i n : ℕ) {m : ℕ} → ((j : ℕ) → j < n → length (f j) ≤ k) → i < n → k * n + spare ≤ length old → Fronted (turns f i) old m w → m + k + spare ≤ length old
+  turns-spare k spare i n most h room x = omega (arith, x .count, turns-most f k i (λ j l. most j (omega arith)), mul-suc k i, mul-le-mul-left k h)
+
   pub turns-room : (k i n : ℕ) {m : ℕ} → ((j : ℕ) → j < n → length (f j) ≤ k) → i < n → k * n ≤ length old → Fronted (turns f i) old m w → m + k ≤ length old
-  turns-room k i n most h room x = omega (arith, x .count, turns-most f k i (λ j l. most j (omega arith)), mul-suc k i, mul-le-mul-left k h)
+  turns-room k i n most h room x = omega (arith, turns-spare k 0 i n most h (omega arith) x)
 
   pub turns-stored : {v z : List ℕ} (i : ℕ) {n m : ℕ} → v ≡ f i → n + length (f i) ≤ length old → Fronted (turns f i) old n w → m ≡ length v
       → z ≡ placed v (take (length w - n) (drop n w))

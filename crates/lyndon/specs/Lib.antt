@@ -36,3 +36,4 @@ pub mod Judging
 pub mod Entries
 pub mod Filling
 pub mod Orders
+pub mod Sufficing

@@ -12,7 +12,7 @@ use Rattle.definitions.specs.declared.Answer.{Answer}
 use Rattle.definitions.specs.declared.Answer.the-variants.{Done, Refused}
 use Rattle.definitions.specs.Table.{tableOf, ruleCount}
 use Rattle.definitions.specs.Occurrences.{occurrences}
-use Rattle.definitions.specs.Services.{Check, firstMet, Serves, Answers, textTooLong, sampleOrder, patternChecks}
+use Rattle.definitions.specs.Services.{Check, firstMet, resultSlice, Serves, Answers, textTooLong, sampleOrder, patternChecks}
 use Rattle.definitions.specs.Programs.{decimal, named, linesOf, refusedLine, printed, motifOf, driveOf, inputTooLong, rulesName, foundName, foundLines, motifOutput}
 use Rattle.lines.specs.Lines.{refusal}
 use Rattle.lines.proofs.Lines.{named-most, decimals-most}
@@ -45,7 +45,7 @@ module _ (input : List ℕ) (r : Answer) (old table : List ℕ) (v : Serves (dri
   pub drive-refused : (x y : ℕ) → r ≡ Refused x y → refusal r ≡ motifOutput sampleOrder input
   unfolding driveStep firstMet
   drive-refused x y q =
-      refusal-printed driveChecks t old table r v x y q (searchOutput sampleOrder input) (motifOutput sampleOrder input) output
+      refusal-printed driveChecks (length t) (resultSlice t old ∷ []) v q (searchOutput sampleOrder input) (motifOutput sampleOrder input) output
 
   short : (a b : Bool) → cond a true (cond b true false) ≡ false → b ≡ false
   short true b e = absurd (true≢false e)
@@ -56,11 +56,11 @@ module _ (input : List ℕ) (r : Answer) (old table : List ℕ) (v : Serves (dri
       → (k ≤ length table) × Built input (take (k - 0) table) × (searchOutput sampleOrder input ≡ motifOutput sampleOrder input)
   unfolding driveStep firstMet
   drive-done k q =
-      let (fits, front) = success-written driveChecks t old table r v k q in
-      let passed = success-passed driveChecks t old table r v k q in (
+      let (fits, front) = success-written driveChecks t old v q in
+      let passed = success-passed driveChecks (length t) (resultSlice t old ∷ []) v q in (
         fits,
         record { short = ltb-false 2047 (length (driveOf input)) (short (ltb 4095 (length input)) (ltb 2047 (length (driveOf input))) passed); table = front },
-        success-printed driveChecks t old table r v k q (searchOutput sampleOrder input) (motifOutput sampleOrder input) output,
+        success-printed driveChecks (length t) (resultSlice t old ∷ []) v q (searchOutput sampleOrder input) (motifOutput sampleOrder input) output,
       )
 
 -- ---- the motif
@@ -79,11 +79,11 @@ module _ (input : List ℕ) (r : Answer) (old positions : List ℕ) (v : Serves 
   pub motif-refused : (x y : ℕ) → r ≡ Refused x y → refusal r ≡ searchOutput sampleOrder input
   unfolding motifStep patternChecks firstMet
   motif-refused x y q =
-      refusal-printed (patternChecks (motifOf input)) finds old positions r v x y q l (searchOutput sampleOrder input) found-output
+      refusal-printed (patternChecks (motifOf input)) (length finds) (resultSlice finds old ∷ []) v q l (searchOutput sampleOrder input) found-output
 
   pub motif-done : (k : ℕ) → r ≡ Done k
       → (k ≤ length positions) × (take (k - 0) positions ≡ occurrences (motifOf input) (driveOf input)) × (l ≡ searchOutput sampleOrder input)
   unfolding motifStep
   motif-done k q =
-      let (fits, front) = success-written (patternChecks (motifOf input)) finds old positions r v k q in
-      (fits, front, success-printed (patternChecks (motifOf input)) finds old positions r v k q l (searchOutput sampleOrder input) found-output)
+      let (fits, front) = success-written (patternChecks (motifOf input)) finds old v q in
+      (fits, front, success-printed (patternChecks (motifOf input)) (length finds) (resultSlice finds old ∷ []) v q l (searchOutput sampleOrder input) found-output)

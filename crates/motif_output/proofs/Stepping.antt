@@ -1,12 +1,12 @@
 -- What the services answer on the input's drive and motif is what the steps of the program say.
-use mathlib.Core.Path.{_≡_, refl, _∙_, ap, ap₂}
+use mathlib.Core.Path.{_≡_, refl, _∙_, ap, ap₂, subst}
 use mathlib.Core.Bool.{Bool, true, false}
 use mathlib.Core.List.{List, [], _∷_}
 use Prim.Native.Nat.{ℕ, _≤_}
 use native.Mathlib.Omega.{arith}
 use lib.ListN.{length, getD}
 use lib.Dec.{ltb, eqb}
-use borrow.Author.Tests.{le-ltb, ltb-false, eqb-false}
+use borrow.Author.Tests.{le-ltb, eqb-false}
 use Rattle.definitions.specs.declared.Order.{Order}
 use Rattle.definitions.specs.declared.Content.the-variants.{Samples}
 use Rattle.definitions.specs.declared.Answer.{Answer}
@@ -17,15 +17,13 @@ use Rattle.definitions.specs.Occurrences.{occurrences}
 use Rattle.definitions.specs.Steps.{finds}
 use Rattle.definitions.specs.Services.{Outcome, firstMet, outcomeOf, outcome, slicesAfter, Serves, Answers, Searches, searchChecks, patternChecks, tableChecks, buildService, locateService}
 use Rattle.definitions.specs.Programs.{motifOf, driveOf, inputTooLong}
-use Rattle.lists.specs.Decisions.{met, checked, refused-met}
-use Rattle.lists.specs.Serving.{refused-by, alone, search-alone}
+use Rattle.lists.specs.Decisions.{met, none, more, checked, refused-met}
+use Rattle.lists.specs.Serving.{refused-by, passed, alone, search-alone}
 use Rattle.lyndon.specs.Ranks.{Bytes}
 use Rattle.lyndon.specs.Occurrences.{occurrences-fewer}
-use Rattle.lyndon.specs.Stored.{Stored, Acceptable, passes, table-text, table-size}
+use Rattle.lyndon.specs.Stored.{Stored, Acceptable, passes, table-text}
+use Rattle.lyndon.specs.Sufficing.{build-suffices}
 use Rattle.motif_output.specs.Steps.{driveStep, motifStep}
-
-pub stored : (text : List ℕ) → length text ≤ 2047 → Bytes text → Stored text 0
-stored text h b = record { short = h; bytes = b; chairs = omega arith }
 
 -- ---- the drive
 
@@ -36,26 +34,12 @@ module _ (o : Order) (input : List ℕ) where
   drive-long old r e f = let (q, h) = refused-met (inputTooLong input) (length input) e f in refused-by (inputTooLong input) (met q) (ap outcomeOf h) refl
 
   module _ (old work : List ℕ) (long : 16384 ≤ length work) (room : 4608 ≤ length old) (h : length input ≤ 4095) (b : Bytes (driveOf input)) where
-    built : (m : Bool) → ltb 2047 (length (driveOf input)) ≡ m
-        → (outcome (buildService o (driveOf input) 0 work old) ≡ outcome (driveStep o input old))
-        × (getD (slicesAfter (buildService o (driveOf input) 0 work old)) 1 [] ∷ [] ≡ slicesAfter (driveStep o input old))
-    unfolding outcome slicesAfter buildService driveStep firstMet
-    built true q = (rw (le-ltb 4095 (length input) h, q), rw (le-ltb 4095 (length input) h, q))
-    built false q =
-        let size = table-size o (driveOf input) 0 (stored (driveOf input) (ltb-false 2047 (length (driveOf input)) q) b) in
-        let fits : length (tableOf o (driveOf input) 0) ≤ length old = omega arith in (
-          rw (le-ltb 4095 (length input) h, q, le-ltb (length work) 16384 long, le-ltb (length old) (length (tableOf o (driveOf input) 0)) fits),
-          rw (le-ltb 4095 (length input) h, q, le-ltb (length work) 16384 long, le-ltb (length old) (length (tableOf o (driveOf input) 0)) fits),
-        )
-
     pub drive-built : (text work′ new : List ℕ) (r : Answer) → text ≡ driveOf input
         → Serves (buildService o text 0 work old) (Answers r) (work′ ∷ new ∷ []) → Serves (driveStep o input old) (Answers r) (new ∷ [])
+    unfolding driveStep
     drive-built text work′ new r e v =
-        let (answer, table) = built (ltb 2047 (length (driveOf input))) refl in
-        record {
-          answer = v .answer ∙ ap (λ (x : List ℕ). outcome (buildService o x 0 work old)) e ∙ answer;
-          slices = ap (λ (l : List (List ℕ)). getD l 1 [] ∷ []) (v .slices ∙ ap (λ (x : List ℕ). slicesAfter (buildService o x 0 work old)) e) ∙ table;
-        }
+        passed (more (inputTooLong input) (le-ltb 4095 (length input) h) none)
+        (build-suffices o (driveOf input) old work long room b r (subst (λ (x : List ℕ). Serves (buildService o x 0 work old) (Answers r) (work′ ∷ new ∷ [])) e v))
 
 -- ---- the motif
 

@@ -5,8 +5,9 @@ use lib.ListN.{take}
 use borrow.Author.Needs.{needs}
 use Rattle.definitions.specs.Services.{sampleOrder}
 use Rattle.definitions.specs.Programs.{driveOf}
+use Rattle.lyndon.specs.Sufficing.{stored}
 use Rattle.motif_input.proofs.Splitting.{motif-taken, motif-fits, drive-bytes}
-use Rattle.motif_output.proofs.Stepping.{stored, motif-located}
+use Rattle.motif_output.proofs.Stepping.{motif-located}
 use Rattle.motif_output.proofs.locate_motif.Statement.{statement}
 use Rattle.motif_output.proofs.locate_motif.Tie as tie
 
