@@ -1,0 +1,3 @@
+pub mod Tallying
+pub mod Listed
+pub mod Stepping
