@@ -17,7 +17,7 @@ use Rattle.lists.specs.Members.{rising-at}
 use Rattle.lists.specs.Numbers.{Rising}
 use Rattle.lyndon.specs.Ranks.{Bytes}
 use Rattle.run_keys.specs.Keys.{keyOf, runWith, key-before}
-use Rattle.key_counts.specs.Keys.{countOf, distinctKeys, keys-rising, counts-total}
+use Rattle.key_counts.specs.Keys.{countOf, distinctKeys, keys-rising, counts-total, distinct-length}
 use Rattle.run_counts.specs.Runs.{Run, Runs, distinct-only, distinct-keys, distinct-back, runs-runs, runs-number, count-keys}
 
 -- ---- members
@@ -91,6 +91,11 @@ module _ (o : Order) (q : ℕ) (text : List ℕ) (bytes : Bytes text) where
   pub census-runs : map (runWith o q) (distinctKeys allKeys) ≡ censusRuns o q text
   unfolding censusRuns
   census-runs = distinct-back o q (runsOf q text) (runs-runs o q text bytes)
+
+  -- there are no more of them than positions from which q samples are left
+  pub census-few : length (censusRuns o q text) ≤ suc (length text) - q
+  census-few =
+      omega (arith, ap length census-runs, length-map (distinctKeys allKeys) (runWith o q), distinct-length allKeys, length-map (runsOf q text) (keyOf o), runs-number o q text bytes)
 
   pub census-counts : 0 < q → map (countOf allKeys) (distinctKeys allKeys) ≡ censusCounts o q text
   unfolding censusCounts
