@@ -1,3 +1,4 @@
 pub mod Tallying
 pub mod Listed
 pub mod Stepping
+pub mod Printing
