@@ -1,9 +1,10 @@
 -- What is printed, from the answers of the two steps: the line of a refusal, or the output of what comes next. Of an input of 2,049 bytes or more so many are read, and the
 -- same is printed (`read-enough`).
-use mathlib.Core.Path.{_≡_, refl, sym, _∙_, ap, ap₂}
+use mathlib.Core.Path.{_≡_, refl, sym, _∙_, ap, ap₂, subst}
 use mathlib.Core.List.{List, [], _∷_, _++_}
 use Prim.Native.Nat.{ℕ, _-_, _*_, _+_, _≤_, _<_}
 use native.Mathlib.Omega.{arith}
+use native.Mathlib.Nat.{le-trans, le-of-eq}
 use lib.ListN.{length, take, drop, getD, length-take, length-drop}
 use lib.Dec.{ltb}
 use borrow.Author.Tests.{lt-ltb, ltb-false}
@@ -31,6 +32,15 @@ read-enough o input h =
       lt-ltb 2047 (length (drop 1 input)) (simp length-drop (omega arith)),
       lt-ltb 2047 (length (drop 1 (take 2049 input))) (simp (length-drop, length-take) (omega arith)),
     )
+
+-- what a census of window w left in two slices, k runs: how much of them is taken, and that its report is what is printed
+pub record Listed (input runs counts : List ℕ) (w k : ℕ) : Type 0 where
+  pub small : (w ≤ 8) × (k ≤ 2047)
+  pub runsFit : w * k ≤ length runs
+  pub countsFit : k ≤ length counts
+  pub tallied : Tallied w (take (w * k - 0) runs) (take (k - 0) counts)
+  pub outFits : (4 * w + 5) * length (take (k - 0) counts) + 11 ≤ 75744
+  pub output : report w (take (w * k - 0) runs) (take (k - 0) counts) ≡ windowOutput sampleOrder input
 
 -- ---- the drive
 
@@ -99,19 +109,29 @@ module _ (input oldRuns oldCounts runs counts : List ℕ) (r : Answer) (v : Serv
     tallied : Tallied q listed often
     tallied = listed-tallied sampleOrder q (censusDrive input) bytes (inside .0) short
 
-    -- what is taken of the two slices
-    pub counts-taken : (k ≤ length counts) × (take (k - 0) counts ≡ often)
+    counts-taken : (k ≤ length counts) × (take (k - 0) counts ≡ often)
     counts-taken = front-taken often oldCounts counts k (left .1) (ap (λ (s : List (List ℕ)). getD s 1 []) (left .2))
 
-    pub runs-taken : (q * k ≤ length runs) × (take (q * k - 0) runs ≡ listed)
-    runs-taken =
-        front-taken listed oldRuns runs (q * k) (ap (λ (n : ℕ). q * n) (left .1) ∙ sym (tallied .size)) (ap (λ (s : List (List ℕ)). getD s 0 []) (left .2))
+    runs-taken : (w : ℕ) → w ≡ q → (w * k ≤ length runs) × (take (w * k - 0) runs ≡ listed)
+    runs-taken w d =
+        front-taken listed oldRuns runs (w * k) (ap₂ {C = ℕ} (λ x y. x * y) d (left .1) ∙ sym (tallied .size)) (ap (λ (s : List (List ℕ)). getD s 0 []) (left .2))
 
-    pub census-room : (q ≤ 8) × (k ≤ 2047) × Tallied q listed often × ((4 * q + 5) * length often + 11 ≤ 75744)
-    census-room = (inside .1, omega (arith, left .1, tallied .few), tallied, listed-room sampleOrder q (censusDrive input) bytes (inside .0) short (inside .1))
-
-    pub census-done : report q listed often ≡ windowOutput sampleOrder input
+    report-output : report q listed often ≡ windowOutput sampleOrder input
     unfolding report windowStep
-    census-done =
+    report-output =
         ap (λ (x : List ℕ). x ++ line (decimal (total often))) (listed-lines sampleOrder q (censusDrive input) bytes)
         ∙ success-printed (oddWindow q ∷ []) (length often) (resultSlice listed oldRuns ∷ resultSlice often oldCounts ∷ []) v e l (windowOutput sampleOrder input) census-output
+
+    pub census-done : (w : ℕ) → w ≡ q → Listed input runs counts w k
+    census-done w d =
+        let (fits, front) = runs-taken w d in
+        let (room, counted) = counts-taken in
+        record {
+          small = (omega (arith, inside .1), omega (arith, left .1, tallied .few));
+          runsFit = fits;
+          countsFit = room;
+          tallied = subst (λ (y : List ℕ). Tallied w y (take (k - 0) counts)) (sym front)
+              (subst (λ (y : List ℕ). Tallied w listed y) (sym counted) (subst (λ (x : ℕ). Tallied x listed often) (sym d) tallied));
+          outFits = le-trans (le-of-eq (ap₂ {C = ℕ} (λ x y. (4 * x + 5) * length y + 11) d counted)) (listed-room sampleOrder q (censusDrive input) bytes (inside .0) short (inside .1));
+          output = ap₂ {C = List ℕ} (λ x y. report w x y) front counted ∙ ap (λ (x : ℕ). report x listed often) d ∙ report-output;
+        }
