@@ -1,37 +1,27 @@
--- What a search for one sample tells (`located`): refused by a check of the table alone, or done, with its places in a slice of 2,047 entries. An accepted table's drive has at most
--- 2,047 samples, each a byte (`accepted`).
+-- What a search for one sample tells (`located`): refused by a check of the table alone, or done, with its places in a slice of 2,047 entries.
 use mathlib.Core.Path.{_≡_, refl, sym, _∙_, ap, ap₂, subst}
-use mathlib.Core.Bool.{Bool, true, false, not, _&&_}
 use mathlib.Core.Logic.{_⊎_, inl, inr}
 use mathlib.Core.List.{List, [], _∷_, _++_}
 use Prim.Native.Nat.{ℕ, _+_, _≤_}
 use native.Mathlib.Omega.{arith}
 use lib.ListN.{length, take, drop, getD, replicate}
 use lib.Seq.{drop-at}
-use lib.Dec.{ltb}
-use borrow.Author.Tests.{le-ltb, not-false}
+use borrow.Author.Tests.{le-ltb}
 use Rattle.definitions.specs.declared.Order.{Order}
 use Rattle.definitions.specs.declared.Content.the-variants.{Samples}
 use Rattle.definitions.specs.declared.Answer.{Answer}
 use Rattle.definitions.specs.declared.Answer.the-variants.{Done, Refused}
 use Rattle.definitions.specs.declared.Search.{Search}
-use Rattle.definitions.specs.Words.{placed, same}
-use Rattle.definitions.specs.Table.{tableOf, textOf, chairOf, isDrive, isChair, isTable}
+use Rattle.definitions.specs.Words.{placed}
+use Rattle.definitions.specs.Table.{textOf}
 use Rattle.definitions.specs.Occurrences.{occurrences, tests}
 use Rattle.definitions.specs.Steps.{finds, searched}
 use Rattle.definitions.specs.Services.{Outcome, Check, done, refused, outcomeOf, outcome, slicesAfter, searchOf, firstMet, workSlice, cleared, patternEmpty, patternTooLong, resultTooShort, patternChecks, searchChecks, tableChecks, locateService, Serves, Searches}
-use Rattle.lists.specs.Bools.{and-left}
 use Rattle.lists.specs.Decisions.{First, later, Passed, more, none, decide, first-decides, passed-all, first-before, both-passed}
-use Rattle.lyndon.specs.Ranks.{Bytes, drive-is}
 use Rattle.lyndon.specs.Occurrences.{occurrences-fewer}
+use Rattle.census.specs.Accepted.{accepted}
 use Rattle.census.specs.Samples.{Tried, turned-down, tried-done, done-tried, Begun, SoFar, numberBelow, putAll, number-none, number-more, so-far-none, so-far-more, so-far-all}
 use Rattle.census.specs.Samples as samples
-
-pub accepted : (o : Order) (t : List ℕ) (n : ℕ) → Passed (tableChecks o t n) → (length (textOf o t) ≤ 2047) × Bytes (textOf o t)
-unfolding tableChecks isTable
-accepted o t n (more _ a (more _ b (more _ c (more _ d none)))) =
-    let text = textOf o t in
-    drive-is text (and-left (isDrive text) (isChair (chairOf t) && same (tableOf o text (chairOf t)) t) (not-false (isTable o t) d))
 
 module _ (o : Order) (t work old : List ℕ) (b : ℕ) (room : length old ≡ 2047) where
   abbrev places : List ℕ

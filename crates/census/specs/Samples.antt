@@ -19,7 +19,7 @@ use Rattle.definitions.specs.Table.{textOf}
 use Rattle.definitions.specs.Occurrences.{occurrences}
 use Rattle.definitions.specs.Services.{Check, workSlice, cleared, tableChecks}
 use Rattle.lists.specs.Bools.{either, contra, bool-ext, and-left, and-intro}
-use Rattle.lists.specs.Numbers.{split-lt, below-in, below-lt, below-ext, below-none, below-length}
+use Rattle.lists.specs.Numbers.{split-lt, below-in, below-lt, below-ext, below-none, below-all, below-length}
 use Rattle.lists.specs.Members.{at-in}
 use Rattle.lists.specs.Decisions.{First, met, later, Passed, more}
 use Rattle.lyndon.specs.Ranks.{Bytes}
@@ -204,14 +204,9 @@ number-none text = ap length (below-none (λ i. ltb (getD text i 0) 0) (length t
 pub so-far-none : (text drive : List ℕ) → length text ≤ length drive → SoFar text 0 drive
 so-far-none text drive h = record { room = h; right = λ i k l. absurd (omega arith) }
 
-all-below : (f : ℕ → Bool) (n : ℕ) → ((i : ℕ) → i < n → f i ≡ true) → length (below f n) ≡ n
-unfolding below
-all-below f zero h = refl
-all-below f (suc n) h = rw (h n (omega arith)) (length-append (below f n) (n ∷ []) ∙ omega (arith, all-below f n (λ i l. h i (omega arith))))
-
 pub number-all : (text : List ℕ) → Bytes text → numberBelow text 256 ≡ length text
 unfolding numberBelow
-number-all text bytes = all-below (λ i. ltb (getD text i 0) 256) (length text) (λ i h. lt-ltb (getD text i 0) 256 (bytes (getD text i 0) (at-in text i h)))
+number-all text bytes = below-all (λ i. ltb (getD text i 0) 256) (length text) (λ i h. lt-ltb (getD text i 0) 256 (bytes (getD text i 0) (at-in text i h)))
 
 same-front : (text drive : List ℕ) → length text ≤ length drive → ((i : ℕ) → i < length text → getD drive i 0 ≡ getD text i 0) → take (length text) drive ≡ text
 same-front [] drive h e = refl

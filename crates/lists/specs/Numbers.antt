@@ -171,6 +171,12 @@ below-length f (suc n) = go (f n) refl (below-length f n)
     go true e ih = rw e (simp length-append (omega arith))
     go false e ih = rw (e, append-nil) (omega arith)
 
+-- all of them
+pub below-all : (f : ℕ → Bool) (n : ℕ) → ((k : ℕ) → k < n → f k ≡ true) → length (below f n) ≡ n
+unfolding below
+below-all f zero h = refl
+below-all f (suc n) h = rw (h n (omega arith)) (length-append (below f n) (n ∷ []) ∙ omega (arith, below-all f n (λ k l. h k (omega arith))))
+
 -- what passes f passes g: there are at least as many
 pub count-le : (f g : ℕ → Bool) (n : ℕ) → ((k : ℕ) → k < n → f k ≡ true → g k ≡ true) → length (below f n) ≤ length (below g n)
 unfolding below

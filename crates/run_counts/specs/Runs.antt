@@ -16,7 +16,7 @@ use Rattle.definitions.specs.Occurrences.{occurrences}
 use Rattle.definitions.specs.Census.{runsOf, comesBefore, entered, distinct, censusRuns, countIn, censusCounts, total}
 use Rattle.lists.specs.Bools.{not-so}
 use Rattle.lists.specs.Strings.{front-begins, begins-entries}
-use Rattle.lists.specs.Numbers.{below-ext, below-stop, below-lt}
+use Rattle.lists.specs.Numbers.{below-all, below-ext, below-stop, below-lt}
 use Rattle.lyndon.specs.Ranks.{Bytes}
 use Rattle.run_keys.specs.Keys.{keyOf, runWith, key-before, key-same, key-back, bytes-take, bytes-drop}
 use Rattle.key_counts.specs.Keys.{countOf, enteredKey, distinctKeys}
@@ -85,11 +85,6 @@ in-runs : (f : ℕ → List ℕ) (l : List ℕ) (z : List ℕ) → In z (map f l
 in-runs f [] z m = absurd (in-nil m)
 in-runs f (a ∷ l) z m = ⊎-elim (λ e. (a, here refl, e)) (λ k. let (i, n, e) = in-runs f l z k in (i, there n, e)) (in-cons m)
 
-all-length : (n : ℕ) → length (below (λ i. true) n) ≡ n
-unfolding below
-all-length zero = refl
-all-length (suc n) = length-append (below (λ i. true) n) (n ∷ []) ∙ omega (arith, all-length n)
-
 count-append : (l : List ℕ) (z k : ℕ) → countOf (l ++ (z ∷ [])) k ≡ countOf l k + cond (eqb z k) 1 0
 unfolding countOf
 count-append [] z k = omega arith
@@ -119,7 +114,7 @@ module _ (o : Order) (q : ℕ) (text : List ℕ) (bytes : Bytes text) where
   -- its runs are as many as there are positions
   pub runs-number : length (runsOf q text) ≡ suc (length text) - q
   unfolding runsOf
-  runs-number = length-map (below (λ i. true) (suc (length text) - q)) (λ (i : ℕ). take q (drop i text)) ∙ all-length (suc (length text) - q)
+  runs-number = length-map (below (λ i. true) (suc (length text) - q)) (λ (i : ℕ). take q (drop i text)) ∙ below-all (λ i. true) (suc (length text) - q) (λ k h. refl)
 
   -- a run of q bytes stands among them as often as it begins in the text
   pub count-keys : 0 < q → (x : List ℕ) → Run q x → countOf (map (keyOf o) (runsOf q text)) (keyOf o x) ≡ countIn text x

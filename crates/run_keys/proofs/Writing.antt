@@ -14,6 +14,7 @@ use Rattle.definitions.specs.Words.{placed, below}
 use Rattle.definitions.specs.Table.{rankOf, byteOf}
 use Rattle.definitions.specs.Services.{sampleOrder}
 use Rattle.definitions.specs.Census.{runsOf, joined}
+use Rattle.lists.specs.Numbers.{below-all}
 use Rattle.lists.specs.Lists.{placed-none, placed-length, placed-more, placed-last, placed-both, Fronted, fronted-none, fronted-as}
 use Rattle.lyndon.specs.Ranks.{slice-bytes, rank-range}
 use Rattle.run_keys.specs.Keys.{digitOf, keyOf, runWith, key-more, key-fits, bytes-take}
@@ -64,17 +65,12 @@ samples-none i k out e = ap (λ (n : ℕ). placed (runWith sampleOrder n k) out)
 
 -- ---- the keys of a text's runs, one more a turn
 
-all-length : (n : ℕ) → length (below (λ j. true) n) ≡ n
-unfolding below
-all-length zero = refl
-all-length (suc n) = length-append (below (λ j. true) n) (n ∷ []) ∙ omega (arith, all-length n)
-
 -- the first i of them
 abbrev pub keysTo : ℕ → List ℕ → ℕ → List ℕ
 keysTo q text i = map (λ (k : ℕ). keyOf sampleOrder (take q (drop k text))) (below (λ j. true) i)
 
 keys-length : (q : ℕ) (text : List ℕ) (i : ℕ) → length (keysTo q text i) ≡ i
-keys-length q text i = length-map (below (λ j. true) i) (λ (k : ℕ). keyOf sampleOrder (take q (drop k text))) ∙ all-length i
+keys-length q text i = length-map (below (λ j. true) i) (λ (k : ℕ). keyOf sampleOrder (take q (drop k text))) ∙ below-all (λ j. true) i (λ k h. refl)
 
 pub keys-none : (q : ℕ) (text old : List ℕ) → old ≡ placed (keysTo q text 0) old
 unfolding below
@@ -93,7 +89,7 @@ pub keys-all : (q : ℕ) (text old w : List ℕ) (i : ℕ) → i ≡ suc (length
     → (i ≡ length (runsOf q text)) × (w ≡ placed (map (keyOf sampleOrder) (runsOf q text)) old)
 unfolding runsOf
 keys-all q text old w i e f = (
-  sym (length-map (below (λ j. true) (suc (length text) - q)) (λ (k : ℕ). take q (drop k text)) ∙ all-length (suc (length text) - q) ∙ sym e),
+  sym (length-map (below (λ j. true) (suc (length text) - q)) (λ (k : ℕ). take q (drop k text)) ∙ below-all (λ i. true) (suc (length text) - q) (λ k h. refl) ∙ sym e),
   f ∙ ap (λ (n : ℕ). placed (keysTo q text n) old) e ∙ ap (λ (l : List ℕ). placed l old) (sym (map-map (keyOf sampleOrder) (λ (k : ℕ). take q (drop k text)) (below (λ j. true) (suc (length text) - q)))),
 )
 

@@ -10,7 +10,7 @@ use Rattle.definitions.specs.Table.{textOf}
 use Rattle.definitions.specs.Services.{sampleOrder, cleared, tableChecks, oddWindow}
 use Rattle.lists.specs.Decisions.{Passed}
 use Rattle.census.specs.Samples.{tried-done}
-use Rattle.census.proofs.Locating.{accepted}
+use Rattle.census.specs.Accepted.{accepted}
 use Rattle.census.proofs.Answering.{window-fits, window-refused, table-refused, census-served}
 use Rattle.census.proofs.census.Statement.{statement}
 use Rattle.census.proofs.census.Tie as tie

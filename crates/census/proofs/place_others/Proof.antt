@@ -9,7 +9,7 @@ use Rattle.definitions.specs.Occurrences.{occurrences}
 use Rattle.definitions.specs.Services.{sampleOrder, cleared, tableChecks}
 use Rattle.lists.specs.Decisions.{Passed}
 use Rattle.census.specs.Samples.{SoFar, numberBelow, putAll, number-more, number-all, number-most, so-far-more, turn}
-use Rattle.census.proofs.Locating.{accepted}
+use Rattle.census.specs.Accepted.{accepted}
 use Rattle.census.proofs.place_others.Statement.{statement}
 use Rattle.census.proofs.place_others.Tie as tie
 

@@ -12,7 +12,8 @@ use Rattle.definitions.specs.Services.{sampleOrder, cleared, tableChecks}
 use Rattle.lists.specs.Decisions.{Passed}
 use Rattle.run_counts.proofs.Listed.{listed-front, listed-fits}
 use Rattle.census.specs.Samples.{Tried, tried-refused, tried-done, done-tried, Places, putAll, occurs-below}
-use Rattle.census.proofs.Locating.{accepted, located}
+use Rattle.census.specs.Accepted.{accepted}
+use Rattle.census.proofs.Locating.{located}
 use Rattle.census.proofs.place_sample.Statement.{statement}
 use Rattle.census.proofs.place_sample.Tie as tie
 

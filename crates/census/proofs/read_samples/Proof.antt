@@ -8,7 +8,8 @@ use borrow.Author.Needs.{needs}
 use Rattle.definitions.specs.Table.{textOf}
 use Rattle.definitions.specs.Services.{sampleOrder}
 use Rattle.census.specs.Samples.{Begun, tried-refused, tried-done, numberBelow}
-use Rattle.census.proofs.Locating.{accepted, begun, all-read}
+use Rattle.census.specs.Accepted.{accepted}
+use Rattle.census.proofs.Locating.{begun, all-read}
 use Rattle.census.proofs.read_samples.Statement.{statement}
 use Rattle.census.proofs.read_samples.Tie as tie
 
