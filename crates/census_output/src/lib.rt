@@ -22,9 +22,9 @@ pub fn answer(input: &[u8], out: &mut [u8]) -> usize
     ensures { λ _. ⌜ now (out .exit) ≡ placed (censusOutput sampleOrder (now (input .entry))) (now (out .entry)) ⌝ }
 {
     let mut table = [0u32; 4608];
-    let a = build_drive(input, &mut table);
-    let Answer::Done(words) = a else {
-        return put_refusal(a, out);
+    let built = build_drive(input, &mut table);
+    let Answer::Done(words) = built else {
+        return put_refusal(built, out);
     };
     answer_built(input, &table[0..words], out)
 }

@@ -24,14 +24,14 @@ part-answer-built-end c =
     let a = c .before .before in
     let b = a .before .before .before in
     let s = b .before .before .before .before in
-    omega (arith, drive-done (s .args .input .now) _ (b .build-drive .last .1 .0) (b .build-drive .result) (b .build-drive .ensures) (a .a .given .1) .0)
+    omega (arith, drive-done (s .args .input .now) _ (b .build-drive .last .1 .0) (b .build-drive .result) (b .build-drive .ensures) (a .built .given .1) .0)
 
 answer-built-requires : tie.Need-answer-built-requires
 answer-built-requires c κs =
     let a = c .before .before .before .before in
     let b = a .before .before .before in
     let s = b .before .before .before .before in
-    (drive-done (s .args .input .now) _ (b .build-drive .last .1 .0) (b .build-drive .result) (b .build-drive .ensures) (a .a .given .1) .1, s .pre)
+    (drive-done (s .args .input .now) _ (b .build-drive .last .1 .0) (b .build-drive .result) (b .build-drive .ensures) (a .built .given .1) .1, s .pre)
 
 returns-2 : tie.Need-returns-2
 returns-2 c =
@@ -39,7 +39,7 @@ returns-2 c =
     let a = r .before .before .before .before .before in
     let b = a .before .before .before in
     let s = b .before .before .before .before in
-    let e = drive-done (s .args .input .now) _ (b .build-drive .last .1 .0) (b .build-drive .result) (b .build-drive .ensures) (a .a .given .1) .2 in
+    let e = drive-done (s .args .input .now) _ (b .build-drive .last .1 .0) (b .build-drive .result) (b .build-drive .ensures) (a .built .given .1) .2 in
     (r .answer-built .ensures .0 ∙ ap length e, r .answer-built .ensures .1 ∙ ap (λ (x : List ℕ). placed x (s .args .out .now)) e)
 
 pub answer-spec : {M : Type 1} → statement M

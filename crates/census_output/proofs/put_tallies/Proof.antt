@@ -31,7 +31,7 @@ module _ (t : tie.In-loop Inv-loop μ-loop) where
   within : t .before .before .before .before .before .args .q * t .before .loop .i + t .before .before .before .before .before .args .q ≤ length (t .before .before .before .before .before .args .runs .now)
   within =
       let s = t .before .before .before .before .before in
-      tally-within (s .args .q) (s .args .runs .now) (s .args .counts .now) (s .pre .0) (t .before .loop .i) (t .loop-test .taken)
+      tally-within (s .args .q) (s .args .runs .now) (s .args .counts .now) (s .pre .0) (t .before .loop .i) (omega (arith, t .loop-test .taken))
 
   small : (j : ℕ) → j < length (t .before .before .before .before .before .args .counts .now)
       → length (tally (t .before .before .before .before .before .args .q) (t .before .before .before .before .before .args .runs .now) (t .before .before .before .before .before .args .counts .now) j) ≤ 4 * t .before .before .before .before .before .args .q + 5
@@ -45,7 +45,7 @@ module _ (t : tie.In-loop Inv-loop μ-loop) where
   room =
       let at = t .before in
       let s = at .before .before .before .before in
-      turns-spare (tally (s .args .q) (s .args .runs .now) (s .args .counts .now)) (4 * s .args .q + 5) 11 (at .loop .i) (length (s .args .counts .now)) small (t .loop-test .taken) (s .pre .1) (at .loop .inv .2)
+      turns-spare (tally (s .args .q) (s .args .runs .now) (s .args .counts .now)) (4 * s .args .q + 5) 11 (at .loop .i) (length (s .args .counts .now)) small (omega (arith, t .loop-test .taken)) (s .pre .1) (at .loop .inv .2)
 
 mul-start : tie.Need-mul-start Inv-loop μ-loop
 mul-start c = omega (arith, within c)
@@ -80,7 +80,7 @@ add-n c =
     let l = c .before .before in
     let w = l .before .before in
     let t = w .before .before .before in
-    omega (arith, room t, l .put-tally .ensures .0 ∙ ap length (line-at w), small t (t .before .loop .i) (t .loop-test .taken))
+    omega (arith, room t, l .put-tally .ensures .0 ∙ ap length (line-at w), small t (t .before .loop .i) (omega (arith, t .loop-test .taken)))
 
 loop-again : tie.Need-loop-again Inv-loop μ-loop
 loop-again c =
@@ -89,7 +89,7 @@ loop-again c =
     let t = w .before .before .before in
     let at = t .before in
     let a = at .before .before .before .before .args in
-    let more = turns-stored (tally (a .q) (a .runs .now) (a .counts .now)) (at .loop .i) (line-at w) (omega (arith, room t, small t (at .loop .i) (t .loop-test .taken))) (at .loop .inv .2) (l .put-tally .ensures .0) (l .put-tally .ensures .1) in
+    let more = turns-stored (tally (a .q) (a .runs .now) (a .counts .now)) (at .loop .i) (line-at w) (omega (arith, room t, small t (at .loop .i) (omega (arith, t .loop-test .taken)))) (at .loop .inv .2) (l .put-tally .ensures .0) (l .put-tally .ensures .1) in
     (omega arith, more .0, more .1)
 
 returns : tie.Need-returns Inv-loop μ-loop

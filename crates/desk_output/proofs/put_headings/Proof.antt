@@ -29,7 +29,7 @@ room : (t : tie.After-shared-slice-known2 Inv-loop μ-loop) → t .before .befor
 room t =
     let at = t .before .before in
     let s = at .before .before .before in
-    turns-room (lineAt headingName (s .args .headings .now)) 14 (at .loop .i) (length (s .args .headings .now)) (λ j h. name-most (getD (s .args .headings .now) j 0)) (t .before .loop-test .taken) (s .pre) (at .loop .inv .2)
+    turns-room (lineAt headingName (s .args .headings .now)) 14 (at .loop .i) (length (s .args .headings .now)) (λ j h. name-most (getD (s .args .headings .now) j 0)) (omega (arith, t .before .loop-test .taken)) (s .pre) (at .loop .inv .2)
 
 sub-put-heading : tie.Need-sub-put-heading Inv-loop μ-loop
 sub-put-heading c = omega (arith, room c)

@@ -29,7 +29,7 @@ room : (t : tie.After-shared-slice-known2 Inv-loop μ-loop) → t .before .befor
 room t =
     let at = t .before .before in
     let s = at .before .before .before in
-    turns-room (lineAt decimal (s .args .numbers .now)) 11 (at .loop .i) (length (s .args .numbers .now)) (λ j h. line-most (getD (s .args .numbers .now) j 0)) (t .before .loop-test .taken) (s .pre) (at .loop .inv .2)
+    turns-room (lineAt decimal (s .args .numbers .now)) 11 (at .loop .i) (length (s .args .numbers .now)) (λ j h. line-most (getD (s .args .numbers .now) j 0)) (omega (arith, t .before .loop-test .taken)) (s .pre) (at .loop .inv .2)
 
 sub-put-decimal-line : tie.Need-sub-put-decimal-line Inv-loop μ-loop
 sub-put-decimal-line c = omega (arith, room (c .before))

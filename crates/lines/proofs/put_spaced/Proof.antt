@@ -1,5 +1,5 @@
 -- `put_spaced` writes a number and a space a turn, in the rest of the slice. The invariant: those of the bytes passed stand at the front.
-use mathlib.Core.Path.{_≡_, refl}
+use mathlib.Core.Path.{_≡_, refl, _∙_}
 use mathlib.Core.List.{[], _∷_}
 use Prim.Native.Nat.{ℕ, _+_, _-_, _≤_}
 use native.Mathlib.Omega.{arith}
@@ -32,7 +32,7 @@ module _ (t : tie.After-shared-slice-known2 Inv-loop μ-loop) where
   room =
       let at = t .before .before in
       let s = at .before .before .before in
-      turns-room (spacedAt (s .args .bytes .now)) 4 (at .loop .i) (length (s .args .bytes .now)) (λ j h. small j) (t .before .loop-test .taken) (s .pre) (at .loop .inv .2)
+      turns-room (spacedAt (s .args .bytes .now)) 4 (at .loop .i) (length (s .args .bytes .now)) (λ j h. small j) (omega (arith, t .before .loop-test .taken)) (s .pre) (at .loop .inv .2)
 
 cast-put-decimal : tie.Need-cast-put-decimal Inv-loop μ-loop
 cast-put-decimal c =
@@ -46,17 +46,21 @@ sub-put-decimal c = omega (arith, room c)
 part-put-decimal-start : tie.Need-part-put-decimal-start Inv-loop μ-loop
 part-put-decimal-start c = omega (arith, room c)
 
-put-decimal-requires : tie.Need-put-decimal-requires Inv-loop μ-loop
-put-decimal-requires c κs =
-    let t = c .before in
+-- without what stands behind the number
+digits : (t : tie.After-shared-slice-known2 Inv-loop μ-loop) → length (decimal (getD (t .before .before .before .before .before .args .bytes .now) (t .before .before .loop .i) 0)) ≤ 3
+digits t =
     let at = t .before .before in
-    simp (length-take, length-drop) (omega (arith, room t, small t (at .loop .i), length-append (decimal (getD (at .before .before .before .args .bytes .now) (at .loop .i) 0)) (32 ∷ [])))
+    omega (arith, small t (at .loop .i), length-append (decimal (getD (at .before .before .before .args .bytes .now) (at .loop .i) 0)) (32 ∷ []))
+
+put-decimal-requires : tie.Need-put-decimal-requires Inv-loop μ-loop
+put-decimal-requires c κs = simp (length-take, length-drop) (omega (arith, room (c .before), digits (c .before)))
 
 add-n : tie.Need-add-n Inv-loop μ-loop
 add-n c =
     let l = c .before .before in
     let t = l .before .before in
-    omega (arith, room t, l .put-decimal .ensures .0, small t (t .before .before .loop .i))
+    let at = t .before .before in
+    omega (arith, room t, digits t, l .put-decimal .ensures .0 ∙ length-append (decimal (getD (at .before .before .before .args .bytes .now) (at .loop .i) 0)) _)
 
 loop-again : tie.Need-loop-again Inv-loop μ-loop
 loop-again c =
