@@ -1,32 +1,28 @@
 -- What the service answers: refused by 13 (`window-refused`), refused with the table (`table-refused`), or decided by what is delivered (`census-served`).
-use mathlib.Core.Path.{_≡_, refl, sym, ap, subst}
+use mathlib.Core.Path.{_≡_, refl, ap, subst}
 use mathlib.Core.Bool.{false}
 use mathlib.Core.List.{List, [], _∷_}
 use Prim.Native.Nat.{ℕ, _≤_, _<_}
 use native.Mathlib.Omega.{arith}
 use lib.ListN.{length}
-use lib.Dec.{ltb}
-use borrow.Author.Tests.{ltb-false}
 use Rattle.definitions.specs.declared.Order.{Order}
 use Rattle.definitions.specs.declared.Answer.{Answer}
 use Rattle.definitions.specs.declared.Answer.the-variants.{Done, Refused}
 use Rattle.definitions.specs.Table.{textOf}
 use Rattle.definitions.specs.Services.{Outcome, Check, outcomeOf, cleared, oddWindow, eitherTooShort, tableChecks, writesBoth, censusService, Serves, Answers}
 use Rattle.definitions.specs.Census.{censusRuns, censusCounts, joined}
-use Rattle.lists.specs.Bools.{contra, not-so, or-left, or-right}
 use Rattle.lists.specs.Decisions.{met, later, Passed, more, first-before, checked, refused-met, done-met}
 use Rattle.lists.specs.Serving.{refused-by, passed, worked}
+use Rattle.census.specs.Accepted.{window-range}
 use Rattle.census.specs.Samples.{Tried, turned-down, done}
 
 module _ (q : ℕ) {r : Answer} (e : r ≡ checked (oddWindow q) q) where
   -- a window that fits
   pub window-fits : {k : ℕ} → r ≡ Done k → (oddWindow q .met ≡ false) × (0 < q) × (q ≤ 8)
   window-fits g =
-      let f = done-met (oddWindow q) q e g .0 in (
-        f,
-        ltb-false q 1 (not-so (ltb q 1) (λ t. contra (or-left (ltb q 1) (ltb 8 q) t) f)),
-        ltb-false 8 q (not-so (ltb 8 q) (λ t. contra (or-right (ltb q 1) (ltb 8 q) t) f)),
-      )
+      let f = done-met (oddWindow q) q e g .0 in
+      let (low, high) = window-range q f in
+      (f, low, high)
 
   pub window-refused : (o : Order) (t work runs counts : List ℕ) {a b : ℕ} → r ≡ Refused a b → Serves (censusService o t q work runs counts) (Answers r) (work ∷ runs ∷ counts ∷ [])
   unfolding censusService outcomeOf

@@ -1,8 +1,8 @@
 -- What a search for one sample tells (`located`): refused by a check of the table alone, or done, with its places in a slice of 2,047 entries.
-use mathlib.Core.Path.{_≡_, refl, sym, _∙_, ap, ap₂, subst}
+use mathlib.Core.Path.{_≡_, refl, sym, _∙_, ap, subst}
 use mathlib.Core.Logic.{_⊎_, inl, inr}
 use mathlib.Core.List.{List, [], _∷_, _++_}
-use Prim.Native.Nat.{ℕ, _+_, _≤_}
+use Prim.Native.Nat.{ℕ, _+_}
 use native.Mathlib.Omega.{arith}
 use lib.ListN.{length, take, drop, getD, replicate}
 use lib.Seq.{drop-at}
@@ -10,13 +10,13 @@ use borrow.Author.Tests.{le-ltb}
 use Rattle.definitions.specs.declared.Order.{Order}
 use Rattle.definitions.specs.declared.Content.the-variants.{Samples}
 use Rattle.definitions.specs.declared.Answer.{Answer}
-use Rattle.definitions.specs.declared.Answer.the-variants.{Done, Refused}
+use Rattle.definitions.specs.declared.Answer.the-variants.{Done}
 use Rattle.definitions.specs.declared.Search.{Search}
 use Rattle.definitions.specs.Words.{placed}
 use Rattle.definitions.specs.Table.{textOf}
 use Rattle.definitions.specs.Occurrences.{occurrences, tests}
 use Rattle.definitions.specs.Steps.{finds, searched}
-use Rattle.definitions.specs.Services.{Outcome, Check, done, refused, outcomeOf, outcome, slicesAfter, searchOf, firstMet, workSlice, cleared, patternEmpty, patternTooLong, resultTooShort, patternChecks, searchChecks, tableChecks, locateService, Serves, Searches}
+use Rattle.definitions.specs.Services.{Outcome, Check, done, refused, outcome, slicesAfter, searchOf, workSlice, cleared, patternEmpty, patternTooLong, resultTooShort, patternChecks, searchChecks, tableChecks, locateService, Serves, Searches}
 use Rattle.lists.specs.Decisions.{First, later, Passed, more, none, decide, first-decides, passed-all, first-before, both-passed}
 use Rattle.lyndon.specs.Occurrences.{occurrences-fewer}
 use Rattle.census.specs.Accepted.{accepted}

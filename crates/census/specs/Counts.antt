@@ -1,24 +1,21 @@
 -- Each count of a census is what `count` answers for that run in the same table (`census-count`).
-use mathlib.Core.Path.{_≡_, refl, sym, ap}
-use mathlib.Core.Bool.{Bool, true, false, _||_, _&&_}
-use mathlib.Core.List.{List, [], _∷_, _++_, List·Memᴰ as In}
+use mathlib.Core.Path.{_≡_}
+use mathlib.Core.List.{List, _∷_, List·Memᴰ as In}
 use Prim.Native.Nat.{ℕ, _≤_, _<_}
 use native.Mathlib.Omega.{arith}
 use lib.ListN.{length}
-use lib.Dec.{ltb, eqb}
-use borrow.Author.Tests.{ltb-false, le-ltb, ne-eqb}
+use borrow.Author.Tests.{le-ltb, ne-eqb}
 use Rattle.definitions.specs.declared.Order.{Order}
 use Rattle.definitions.specs.declared.Content.the-variants.{Samples}
 use Rattle.definitions.specs.Table.{textOf}
 use Rattle.definitions.specs.Occurrences.{tests}
 use Rattle.definitions.specs.Steps.{searched, finds}
-use Rattle.definitions.specs.Services.{done, refused, outcome, oddWindow, eitherTooShort, patternEmpty, patternTooLong, patternChecks, searchChecks, tableChecks, countService, censusService}
-use Rattle.definitions.specs.Census.{censusRuns, countIn, censusCounts, joined}
-use Rattle.lists.specs.Bools.{contra, not-so, or-left, or-right}
-use Rattle.lists.specs.Decisions.{Passed, more, passed-all, passed-parts, both-passed, none}
+use Rattle.definitions.specs.Services.{done, refused, outcome, oddWindow, patternEmpty, patternTooLong, patternChecks, searchChecks, tableChecks, countService, censusService}
+use Rattle.definitions.specs.Census.{censusRuns, countIn}
+use Rattle.lists.specs.Decisions.{Passed, more, passed-all, passed-parts}
 use Rattle.lists.specs.Serving.{done-passed}
 use Rattle.run_counts.specs.Census.{census-run}
-use Rattle.census.specs.Accepted.{accepted}
+use Rattle.census.specs.Accepted.{accepted, window-range}
 
 module _ (o : Order) (t work runs counts : List ℕ) (q : ℕ) {k b : ℕ} (served : outcome (censusService o t q work runs counts) ≡ done k b) where
   -- q and the table are accepted
@@ -27,11 +24,7 @@ module _ (o : Order) (t work runs counts : List ℕ) (q : ℕ) {k b : ℕ} (serv
   passes = passed-parts (oddWindow q ∷ tableChecks o t (length work)) (done-passed (censusService o t q work runs counts) served) .0
 
   window : Passed (oddWindow q ∷ tableChecks o t (length work)) → (0 < q) × (q ≤ 8) × Passed (tableChecks o t (length work))
-  window (more _ e p) = (
-    ltb-false q 1 (not-so (ltb q 1) (λ h. contra (or-left (ltb q 1) (ltb 8 q) h) e)),
-    ltb-false 8 q (not-so (ltb 8 q) (λ h. contra (or-right (ltb q 1) (ltb 8 q) h) e)),
-    p,
-  )
+  window (more _ e p) = let (low, high) = window-range q e in (low, high, p)
 
   pub census-count : (x : List ℕ) → In x (censusRuns o q (textOf o t)) → outcome (countService o t Samples x work) ≡ done (countIn (textOf o t) x) (length (tests o t x))
   unfolding outcome countService searchChecks patternChecks finds searched countIn

@@ -2,7 +2,7 @@
 -- One sample more: `number-more`, `so-far-more`; all of them: `number-all`, `so-far-all`.
 use mathlib.Core.Path.{_≡_, refl, sym, _∙_, ap, ap₂, subst}
 use mathlib.Core.Bool.{Bool, true, false, cond, _&&_}
-use mathlib.Core.Logic.{_⊎_, inl, inr, ⊎-elim}
+use mathlib.Core.Logic.{_⊎_, ⊎-elim}
 use mathlib.Core.List.{List, [], _∷_, _++_, append-nil, List·Memᴰ as In, List·Memᴰ·head as here, List·Memᴰ·tail as there, List·Memᴰ·not-nil as in-nil, List·Memᴰ·cases-cons as in-cons}
 use Prim.Native.Nat.{ℕ, zero, suc, _+_, _-_, _≤_, _<_}
 use native.Mathlib.Omega.{arith}
@@ -10,7 +10,7 @@ use lib.ListN.{length, take, drop, getD, set, length-set, length-append, drop-of
 use native.Mathlib.Nat.{le-refl}
 use lib.Seq.{drop-cons, getD-set-same, getD-set-other}
 use lib.Dec.{ltb, eqb}
-use borrow.Author.Tests.{ltb-true, ltb-false, lt-ltb, le-ltb, eqb-true, eq-eqb, ne-eqb}
+use borrow.Author.Tests.{lt-ltb, le-ltb, eqb-true, eq-eqb, ne-eqb}
 use Rattle.definitions.specs.declared.Order.{Order}
 use Rattle.definitions.specs.declared.Answer.{Answer}
 use Rattle.definitions.specs.declared.Answer.the-variants.{Done, Refused}
@@ -18,7 +18,7 @@ use Rattle.definitions.specs.Words.{below, begins}
 use Rattle.definitions.specs.Table.{textOf}
 use Rattle.definitions.specs.Occurrences.{occurrences}
 use Rattle.definitions.specs.Services.{Check, workSlice, cleared, tableChecks}
-use Rattle.lists.specs.Bools.{either, contra, bool-ext, and-left, and-intro}
+use Rattle.lists.specs.Bools.{contra, bool-ext}
 use Rattle.lists.specs.Numbers.{split-lt, below-in, below-lt, below-ext, below-none, below-all, below-length}
 use Rattle.lists.specs.Members.{at-in}
 use Rattle.lists.specs.Decisions.{First, met, later, Passed, more}

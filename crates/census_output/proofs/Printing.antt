@@ -6,7 +6,6 @@ use Prim.Native.Nat.{ℕ, _-_, _*_, _+_, _≤_, _<_}
 use native.Mathlib.Omega.{arith}
 use native.Mathlib.Nat.{le-trans, le-of-eq}
 use lib.ListN.{length, take, drop, getD, length-take, length-drop}
-use lib.Dec.{ltb}
 use borrow.Author.Tests.{lt-ltb, ltb-false}
 use Rattle.definitions.specs.declared.Order.{Order}
 use Rattle.definitions.specs.declared.Answer.{Answer}
@@ -21,7 +20,7 @@ use Rattle.lyndon.specs.Ranks.{Bytes}
 use Rattle.lines.specs.Lines.{refusal}
 use Rattle.lines.proofs.Deciding.{front-taken, refusal-printed, success-printed, success-left, success-written}
 use Rattle.census_output.specs.Steps.{driveStep, windowStep, windowOutput, Built}
-use Rattle.census_output.specs.Reports.{tallies, report, Tallied}
+use Rattle.census_output.specs.Reports.{report, Tallied}
 use Rattle.census_output.proofs.Stepping.{window-inside}
 use Rattle.census_output.proofs.Listed.{listed-lines, listed-tallied, listed-room}
 

@@ -462,6 +462,8 @@ samples =
     ∷ leaves (cutsService sampleOrder (a ∷ a ∷ a ∷ a ∷ []) (replicate 3 7)) (1 ∷ 3 ∷ 7 ∷ [])
     ∷ first (censusService sampleOrder ofAbab 2 room (replicate 5 7) (replicate 3 7)) (a ∷ b ∷ b ∷ a ∷ 7 ∷ [])
     ∷ leaves (censusService sampleOrder ofAbab 2 room (replicate 5 7) (replicate 3 7)) (2 ∷ 1 ∷ 7 ∷ [])
+    ∷ first (censusService sampleOrder (tableOf sampleOrder (1 ∷ 255 ∷ 1 ∷ []) 40) 1 room (replicate 2 7) (replicate 2 7)) (255 ∷ 1 ∷ [])
+    ∷ leaves (censusService sampleOrder (tableOf sampleOrder (1 ∷ 255 ∷ 1 ∷ []) 40) 1 room (replicate 2 7) (replicate 2 7)) (1 ∷ 2 ∷ [])
     ∷ first (censusService sampleOrder ofAbab 2 room (replicate 4 7) (replicate 1 7)) (replicate 4 7)
     ∷ leaves (censusService sampleOrder ofAbab 2 room (replicate 3 7) (replicate 2 7)) (replicate 2 7)
     ∷ clears (censusService sampleOrder ofAbab 9 room [] []) false
@@ -533,6 +535,7 @@ samples =
     ∷ reports (1 ∷ 9 ∷ []) (refusedWithTen 1)
     ∷ reports (replicate 2048 9) (refusedWith 1)
     ∷ lists (2 ∷ 255 ∷ 10 ∷ 255 ∷ 10 ∷ []) (50 ∷ 53 ∷ 53 ∷ 32 ∷ 49 ∷ 48 ∷ 32 ∷ 50 ∷ 10 ∷ 49 ∷ 48 ∷ 32 ∷ 50 ∷ 53 ∷ 53 ∷ 32 ∷ 49 ∷ 10 ∷ 51 ∷ 10 ∷ [])
+    ∷ lists (1 ∷ 1 ∷ []) (49 ∷ 32 ∷ 49 ∷ 10 ∷ 49 ∷ 10 ∷ [])
     ∷ lists (2 ∷ a ∷ []) (48 ∷ 10 ∷ [])
     ∷ lists (8 ∷ []) (48 ∷ 10 ∷ [])
     ∷ lists [] (refusedWithTen 3)

@@ -1,13 +1,13 @@
 -- Runs that are entered one by one stand in rising order, each once: the last run is one more exactly where it does not stand among them (`distinct-more`).
 -- The runs are byte strings, so that their ranks tell them apart.
-use mathlib.Core.Path.{_≡_, refl, sym, _∙_, ap, ap₂, subst}
+use mathlib.Core.Path.{_≡_, refl, sym, _∙_, ap, subst}
 use mathlib.Core.Bool.{Bool, true, false, cond, _||_, false≢true}
-use mathlib.Core.Logic.{_⊎_, inl, inr, ⊎-elim}
+use mathlib.Core.Logic.{_⊎_, ⊎-elim}
 use mathlib.Core.List.{List, [], _∷_, map}
 use Prim.Native.Nat.{ℕ, suc}
 use lib.ListN.{length}
 use Rattle.definitions.specs.declared.Order.{Order}
-use Rattle.definitions.specs.Words.{same, lexlt}
+use Rattle.definitions.specs.Words.{same}
 use Rattle.definitions.specs.Table.{rankOf, byteOf}
 use Rattle.definitions.specs.Census.{comesBefore, entered, distinct}
 use Rattle.lists.specs.Bools.{contra, not-so, or-cases, or-left, or-right}

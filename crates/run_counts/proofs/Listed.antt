@@ -1,5 +1,5 @@
 -- A list read back from the front of a slice where it was written (`listed-front`, `listed-fits`), and delivered in its place (`listed-served`).
-use mathlib.Core.Path.{_≡_, sym, _∙_, ap, subst}
+use mathlib.Core.Path.{_≡_, _∙_, ap, subst}
 use mathlib.Core.List.{List, []}
 use Prim.Native.Nat.{ℕ, _-_, _≤_}
 use native.Mathlib.Omega.{arith}

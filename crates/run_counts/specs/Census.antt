@@ -4,10 +4,9 @@ use mathlib.Core.Path.{_≡_, refl, sym, _∙_, ap, ap₂, subst}
 use mathlib.Core.Bool.{Bool, true, false, cond}
 use mathlib.Core.Logic.{_⊎_, ⊎-elim}
 use mathlib.Core.List.{List, [], _∷_, map, map-map, List·Memᴰ as In, List·Memᴰ·head as here, List·Memᴰ·tail as there, List·Memᴰ·not-nil as in-nil, List·Memᴰ·cases-cons as in-cons}
-use Prim.Native.Nat.{ℕ, zero, suc, _+_, _-_, _≤_, _<_}
+use Prim.Native.Nat.{ℕ, zero, suc, _-_, _≤_, _<_}
 use native.Mathlib.Omega.{arith}
 use lib.ListN.{length, getD, length-map}
-use lib.Dec.{ltb}
 use borrow.Author.Tests.{lt-ltb}
 use Rattle.definitions.specs.declared.Order.{Order}
 use Rattle.definitions.specs.Words.{same}
@@ -18,7 +17,7 @@ use Rattle.lists.specs.Numbers.{Rising}
 use Rattle.lyndon.specs.Ranks.{Bytes}
 use Rattle.run_keys.specs.Keys.{keyOf, runWith, key-before}
 use Rattle.key_counts.specs.Keys.{countOf, distinctKeys, keys-rising, counts-total, distinct-length}
-use Rattle.run_counts.specs.Runs.{Run, Runs, distinct-only, distinct-keys, distinct-back, runs-runs, runs-number, count-keys}
+use Rattle.run_counts.specs.Runs.{Runs, distinct-only, distinct-keys, distinct-back, runs-runs, runs-number, count-keys}
 
 -- ---- members
 

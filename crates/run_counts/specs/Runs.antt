@@ -1,19 +1,17 @@
 -- Runs of q bytes and their keys: the distinct runs are those of the distinct keys (`distinct-keys`, `distinct-back`), and a run stands among all runs of a text as often as it
 -- begins there (`count-keys`).
-use mathlib.Core.Path.{_≡_, refl, sym, _∙_, ap, ap₂, subst}
-use mathlib.Core.Bool.{Bool, true, false, cond, _&&_}
+use mathlib.Core.Path.{_≡_, refl, sym, _∙_, ap, ap₂}
+use mathlib.Core.Bool.{Bool, true, false, cond}
 use mathlib.Core.Logic.{_⊎_, inl, inr, ⊎-elim}
 use mathlib.Core.List.{List, [], _∷_, _++_, map, map-append, map-map, List·Memᴰ as In, List·Memᴰ·head as here, List·Memᴰ·tail as there, List·Memᴰ·not-nil as in-nil, List·Memᴰ·cases-cons as in-cons}
 use Prim.Native.Nat.{ℕ, zero, suc, _+_, _-_, _≤_, _<_}
 use native.Mathlib.Omega.{arith}
 use lib.ListN.{length, take, drop, length-map, length-append, length-take, length-drop}
-use lib.Dec.{ltb, leb, eqb}
-use borrow.Author.Tests.{eqb-true, eq-eqb}
+use lib.Dec.{ltb, eqb}
 use Rattle.definitions.specs.declared.Order.{Order}
-use Rattle.definitions.specs.Words.{below, same, begins, lexlt}
-use Rattle.definitions.specs.Table.{rankOf}
+use Rattle.definitions.specs.Words.{below, same, begins}
 use Rattle.definitions.specs.Occurrences.{occurrences}
-use Rattle.definitions.specs.Census.{runsOf, comesBefore, entered, distinct, censusRuns, countIn, censusCounts, total}
+use Rattle.definitions.specs.Census.{runsOf, comesBefore, entered, distinct, countIn}
 use Rattle.lists.specs.Bools.{not-so}
 use Rattle.lists.specs.Strings.{front-begins, begins-entries}
 use Rattle.lists.specs.Numbers.{below-all, below-ext, below-stop, below-lt}

@@ -1,4 +1,5 @@
-// The distinct runs of q samples of a text that stands there, and how often each begins in it: listed by their keys, and delivered to two result slices or refused by 9.
+// The distinct runs of q samples of a text, and how often each begins in it: listed by their keys, and delivered to two result slices or refused by 9. A run is here
+// what a census lists; the runs of a pattern, from which its cuts come, are another thing (crate `runs`).
 use definitions::Answer;
 use key_counts::list_keys;
 use results::both_fit;

@@ -1,20 +1,19 @@
 -- The key of a run: a number whose digits to base 256 are the ranks of the samples less 1. Runs of one length compare as their keys do (`key-before`, `key-same`), and a
 -- run comes back from its key (`key-back`).
-use mathlib.Core.Path.{_≡_, refl, sym, _∙_, ap, ap₂, subst}
-use mathlib.Core.Bool.{Bool, true, false, _&&_, _||_}
-use mathlib.Core.List.{List, [], _∷_, _++_, map, append-nil, List·Memᴰ as In, List·Memᴰ·head as here, List·Memᴰ·tail as there}
+use mathlib.Core.Path.{_≡_, refl, sym, _∙_, ap, subst}
+use mathlib.Core.Bool.{_&&_, _||_}
+use mathlib.Core.List.{List, [], _∷_, _++_, map, List·Memᴰ·head as here, List·Memᴰ·tail as there}
 use Prim.Native.Nat.{ℕ, zero, suc, _+_, _-_, _*_, _/_, _%_, _^_, _≤_, _<_}
 use native.Mathlib.Omega.{arith}
 use native.Mathlib.Nat.{add-mul, suc-mul, pow-suc, mul-assoc, mul-comm, mul-le-mul-right, pow-le-pow-right}
 use native.Mathlib.Numerals.{add-one}
 use lib.ListN.{length, take, drop, getD, length-append}
-use lib.Seq.{take-suc, take-length, length-take-le}
+use lib.Seq.{take-suc, take-length}
 use lib.Dec.{ltb, eqb}
-use borrow.Author.Tests.{ltb-true, ltb-false, lt-ltb, le-ltb, eqb-true, eq-eqb, ne-eqb}
+use borrow.Author.Tests.{ltb-true, lt-ltb, le-ltb, eqb-true, eq-eqb, ne-eqb}
 use Rattle.definitions.specs.declared.Order.{Order}
 use Rattle.definitions.specs.Words.{same, lexlt}
 use Rattle.definitions.specs.Table.{rankOf, byteOf}
-use Rattle.definitions.specs.Census.{comesBefore}
 use Rattle.lists.specs.Bools.{bool-ext, or-left}
 use Rattle.lists.specs.Numbers.{split-lt}
 use Rattle.lists.specs.Members.{at-in, in-take, in-drop}

@@ -1,7 +1,6 @@
 -- `census` judges q, reads the drive by its single samples, by which the table is judged, and delivers the runs and counts of what it read.
 use mathlib.Core.Path.{_≡_, _∙_, ap}
 use mathlib.Core.Bool.{false}
-use mathlib.Core.List.{List}
 use Prim.Native.Nat.{ℕ, _-_, _≤_, _<_}
 use native.Mathlib.Omega.{arith}
 use lib.ListN.{length, take}

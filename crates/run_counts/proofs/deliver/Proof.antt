@@ -1,12 +1,12 @@
 -- `deliver` writes the keys of all runs to a local array. What is delivered of them are the runs and counts of the census.
 use mathlib.Core.Path.{_≡_, sym, _∙_, ap}
 use mathlib.Core.List.{List, map}
-use Prim.Native.Nat.{ℕ, _-_, _≤_}
+use Prim.Native.Nat.{ℕ, _-_}
 use native.Mathlib.Omega.{arith}
 use lib.ListN.{length, take, replicate, length-map}
 use borrow.Author.Needs.{needs}
 use Rattle.definitions.specs.Services.{sampleOrder}
-use Rattle.definitions.specs.Census.{runsOf, censusRuns, censusCounts, joined}
+use Rattle.definitions.specs.Census.{runsOf, joined}
 use Rattle.lyndon.specs.Ranks.{Bytes, slice-bytes}
 use Rattle.run_keys.specs.Keys.{keyOf, runWith}
 use Rattle.key_counts.specs.Keys.{countOf, distinctKeys}

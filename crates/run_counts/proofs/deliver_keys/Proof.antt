@@ -1,7 +1,7 @@
 -- `deliver_keys` lists the distinct keys and their counts in local arrays, which are then delivered.
 use mathlib.Core.Path.{_≡_, sym, _∙_, ap}
 use mathlib.Core.List.{List, map}
-use Prim.Native.Nat.{ℕ, _-_, _≤_}
+use Prim.Native.Nat.{ℕ, _-_}
 use native.Mathlib.Omega.{arith}
 use lib.ListN.{length, take, replicate, length-map}
 use borrow.Author.Needs.{needs}
