@@ -273,7 +273,7 @@ class Refusals(unittest.TestCase):
             self.assertIn(name, sirbolta.__all__)
             self.assertEqual((refusal.number, refusal.__doc__), (number, refusal.reason.format(place="N")))
             self.assertRegex(str(refusal(31)), f"^refused {number}: [a-z][^{{}}]+$")
-        self.assertEqual(str(sirbolta.ResultTooShort(31)), "refused 9: the result slice is too short, 31 entries are needed")
+        self.assertEqual(str(sirbolta.ResultTooShort(31)), "refused 9: a result slice is too short: 31 entries, or by a census 31 runs, are needed")
 
     def test_a_refusal_keeps_its_place(self):
         refusal = pickle.loads(pickle.dumps(sirbolta.BadWord(31)))

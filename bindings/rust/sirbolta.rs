@@ -282,7 +282,7 @@ impl fmt::Display for Refusal {
             Refusal::BadWord { at } => write!(f, "word {at} of the table is bad"),
             Refusal::NotATable => write!(f, "no text and chair number has this table, in the order by which it is judged"),
             Refusal::RangePastEnd => write!(f, "the range or position reaches past the end of the text"),
-            Refusal::ResultTooShort { needed } => write!(f, "the result slice is too short, {needed} entries are needed"),
+            Refusal::ResultTooShort { needed } => write!(f, "a result slice is too short: {needed} entries, or by a census {needed} runs, are needed"),
             Refusal::NoStep => write!(f, "the pattern has one sample, so no step by which to search a table that holds steps"),
             Refusal::OffHeading { at } => write!(f, "byte {at} of the text is above 8, so neither rest nor a heading"),
             Refusal::NotAtRest => write!(f, "the text is empty, or does not begin and end at rest"),

@@ -31,8 +31,8 @@ raises NotATable for them, unless all samples of the text are below 128 or none 
 
 Each service answers from its arguments alone, or raises the refusal whose check is met first, a subclass of `Refusal`. `WorkTooShort` and
 `ResultTooShort` are never met: this package lends slices that are long enough. Before the library is called, an argument of another type raises
-TypeError; a negative number, a word or chair number with too many bits, or bytes that are no whole number of words raise ValueError. The samples of a
-census's runs may be any whole number: `OddWindow` says which are refused.
+TypeError; a negative number, a word or chair number with too many bits, or bytes that are no whole number of words raise ValueError. The q of a
+census may be any whole number: `OddWindow` says which are refused.
 
 Threads may call at the same time, and the interpreter's lock is free while the library works. A thread has one work slice of 64 KiB for all its calls.
 `read`, `locate` and `census` take up to 280 KiB of stack. On a thread that was started with a stack below 512 KiB they raise RuntimeError and call nothing;
@@ -83,7 +83,7 @@ _TableWords = ctypes.c_uint32 * _TABLE
 _Cuts = ctypes.c_uint32 * _CUTS
 _Runs = ctypes.c_uint8 * _RUNS
 _AT_ONCE = 100  # tables that `count_each` hands over by one call: some 2 ms for 1,400 samples each, in which no signal is looked at
-_LARGEST = 2**64 - 1  # of a start, a length, a position or the samples of a run; no text reaches as far, so a larger number is refused alike
+_LARGEST = 2**64 - 1  # of a start, a length, a position or the q of a census; no text reaches as far, so a larger number is refused alike
 
 
 class Table:

@@ -4,8 +4,8 @@ from __future__ import annotations
 
 
 class Refusal(Exception):
-    """A service's refusal: its number, its reason, and its place, which is the lowest index of a bad word or of a byte that is off heading, the entries needed,
-    otherwise 0; of `count_each` also the index of the table that is refused."""
+    """A service's refusal: its number, its reason, and its place, which is the lowest index of a bad word or of a byte that is off heading, the entries needed
+    (of a census the runs), otherwise 0; of `count_each` also the index of the table that is refused."""
 
     number: int = 0
     reason: str = ""
@@ -54,7 +54,7 @@ class RangePastEnd(Refusal):
 
 
 class ResultTooShort(Refusal):
-    number, reason = 9, "the result slice is too short, {place} entries are needed"
+    number, reason = 9, "a result slice is too short: {place} entries, or by a census {place} runs, are needed"
 
 
 class NoStep(Refusal):
