@@ -24,7 +24,7 @@ room : (t : tie.In-loop Inv-loop μ-loop) → t .before .loop .n + t .before .be
 room t =
     let at = t .before in
     let s = at .before .before .before in
-    runs-room (s .args .q) (s .args .keys .now) (at .loop .i) (t .loop-test .taken) (s .pre .2) (at .loop .inv .2)
+    runs-room (s .args .q) (s .args .keys .now) (at .loop .i) (omega arith) (s .pre .2) (at .loop .inv .2)
 
 write-run-requires : tie.Need-write-run-requires Inv-loop μ-loop
 write-run-requires c κs = simp (length-take, length-drop) (omega (arith, room (c .before .before)))
