@@ -1,4 +1,6 @@
 // What stands of a rule in the areas of a search: its length, a place, its number of occurrences, and the cut at its join.
+#![tactic(auto)]
+
 ghost use Rattle.std.specs.Prelude.{◌≡◌, ◌≤◌, ltb};
 ghost use Rattle.layout.specs.Layout.{Readable, length_in, place_in, count_in, join_cut_in};
 

@@ -1,4 +1,6 @@
 // Whether the words of a table from anywhere stand where tables have such words: the lowest that does not is refused.
+#![tactic(auto)]
+
 ghost use Rattle.std.specs.Prelude.{◌≡◌, ◌+◌, ◌-◌, ◌*◌, ◌/◌, ◌≤◌, ◌&&◌, length, if◌then◌else◌, ◌==◌, nat_eq, nat_le, nat_lt};
 ghost use Rattle.definitions.specs.Table.{kind_of, number_of, bad_first, bad_second, rule_count};
 ghost use Rattle.definitions.specs.Services.{has_bad_word};

@@ -1,4 +1,6 @@
 // Building the table of a drive, of any drive or of one in the nine-heading profile.
+#![tactic(auto)]
+
 ghost use Rattle.std.specs.Prelude.{[], ◌∷◌, ◌≤◌, length};
 ghost use Rattle.definitions.specs.Table.{table_of};
 ghost use Rattle.definitions.specs.Services.{Serves, Answers, sample_order, writes, build_service, build_profile_service};

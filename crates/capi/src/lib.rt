@@ -1,5 +1,7 @@
 // The services for C, Rust and Python: the same promises, with the answer as a struct. A slice is a pointer and a length; slices overlap
 // neither each other nor the inputs, and word pointers are aligned: that is the caller's part.
+#![tactic(auto)]
+
 ghost use Rattle.std.specs.Prelude.{◌≡◌, [], ◌∷◌};
 ghost use Rattle.definitions.specs.Services.{Serves, sample_order, former_order, build_service, check_service, build_profile_service, check_profile_service, read_service, extract_service, count_service, locate_service, cuts_service, lyndon_length_service, lyndon_array_service, convert_order_service, to_steps_service, from_steps_service, census_service};
 ghost use Rattle.definitions.specs.Replies.{Replies, SearchReplies, content_of, interface_number};

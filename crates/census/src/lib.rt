@@ -1,5 +1,7 @@
 // The census of short runs, over the index and by its promises alone: the lists of the 256 single samples are the drive, since a position stands in exactly one, and the
 // drive's length is the sum of their counts. Nothing else of the table or of the work slice is known here.
+#![tactic(auto)]
+
 ghost use Rattle.std.specs.Prelude.{◌≡◌, [], ◌∷◌, ◌+◌, ◌≤◌, ◌<◌, length, take};
 ghost use Rattle.definitions.specs.Table.{text_of};
 ghost use Rattle.definitions.specs.Occurrences.{occurrences};

@@ -1,4 +1,6 @@
 // What the program `census_report` prints, from the bytes that it reads: a line for each run of q samples of the drive, and the sum of their counts, or a refusal.
+#![tactic(auto)]
+
 ghost use Rattle.std.specs.Prelude.{◌≡◌, [], ◌∷◌, ◌+◌, ◌*◌, ◌≤◌, ◌<◌, length, drop};
 ghost use Rattle.definitions.specs.Words.{placed};
 ghost use Rattle.definitions.specs.Census.{total};

@@ -1,5 +1,7 @@
 // The program `census_report`: reads a number q, one byte, and then a drive, and prints every distinct run of q samples of the drive with its count.
 // What it prints is `answer` of the bytes that are read (crate `census_output`); `main` reads and writes.
+#![tactic(auto)]
+
 use census_output::answer;
 use libc::{STDERR_FILENO, STDOUT_FILENO};
 use standard_input::{Input, read_input};

@@ -1,6 +1,8 @@
 // The program `census_trials`: each line of its input has a digit q and behind it a drive of at most 63 samples. It prints what the library's census says of them, how many
 // runs of q samples there are and each run with its count, and ' by both' where the naive sides say the same: as many runs, rising, each with that count, and the counts'
 // sum. The file `stdout` has what is printed.
+#![tactic(auto)]
+
 ghost use Rattle.std.specs.Prelude.{◌≤◌, length};
 
 use census::census;

@@ -1,4 +1,6 @@
 // Checking a table, of any drive or of one in the nine-heading profile.
+#![tactic(auto)]
+
 ghost use Rattle.std.specs.Prelude.{◌≡◌, true, [], ◌∷◌, length};
 ghost use Rattle.definitions.specs.Table.{rule_count};
 ghost use Rattle.definitions.specs.Services.{Serves, Answers, sample_order, profile_checks, check_service, check_profile_service};

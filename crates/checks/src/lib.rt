@@ -1,5 +1,7 @@
 // What the services share: the checks of what is handed over, each a small function that answers its refusal or goes on with what was accepted; and
 // clearing the work slice afterwards. `results` has the checks of what is asked for and written.
+#![tactic(auto)]
+
 ghost use Rattle.std.specs.Prelude.{◌≡◌, ◌≤◌, length};
 ghost use Rattle.definitions.specs.Services.{cleared, text_too_long, pattern_empty, pattern_too_long, no_step, pattern_checks, search_checks, work_too_short, table_length};
 ghost use Rattle.layout.specs.Layout.{WORK};

@@ -2,6 +2,8 @@
 //
 // The first symbols most often decide. Else short words are compared symbol by symbol; of long ones blocks of eight symbols are passed while they are alike, and then
 // the symbols of the first that is not are compared. The worst case is two long words that are alike to the end.
+#![tactic(auto)]
+
 ghost use Rattle.std.specs.Prelude.{◌≡◌, ◌+◌, ◌-◌, ◌*◌, ◌≤◌, ◌<◌, min, length, drop, get_or};
 ghost use Rattle.definitions.specs.Words.{lexlt};
 ghost use Rattle.lists.specs.Parts.{part};

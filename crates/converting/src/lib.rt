@@ -1,4 +1,6 @@
 // Converting a table of the former order of samples.
+#![tactic(auto)]
+
 ghost use Rattle.std.specs.Prelude.{[], ◌∷◌};
 ghost use Rattle.definitions.specs.Services.{Serves, Answers, former_order, sample_order, convert_order_service};
 

@@ -1,4 +1,6 @@
 // The listed cuts of a pattern, written to a list of k + 1 words, where k is the largest whole number for which 2 to the power k is at most the pattern's length.
+#![tactic(auto)]
+
 ghost use Rattle.std.specs.Prelude.{◌≡◌, cond, ◌&&◌, [], ◌∷◌, ◌+◌, ◌≤◌, ◌<◌, length, ltb, eqb};
 ghost use Rattle.definitions.specs.Words.{placed};
 ghost use Rattle.definitions.specs.Occurrences.{pattern_cuts};

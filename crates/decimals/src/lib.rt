@@ -1,4 +1,6 @@
 // A number in decimal, with the end of its line or another byte behind it, written at the front of a lent slice. It takes at most ten digits.
+#![tactic(auto)]
+
 ghost use Rattle.std.specs.Prelude.{◌≡◌, [], ◌∷◌, ◌++◌, ◌≤◌, ◌<◌, length};
 ghost use Rattle.definitions.specs.Words.{placed};
 ghost use Rattle.definitions.specs.Programs.{digits, digit_count, decimal, line};

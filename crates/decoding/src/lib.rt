@@ -1,6 +1,8 @@
 // Reading a rule from the words of a table. Nothing else takes a rule out of them; `bad_words` judges the words alone, and `twins` looks rules up by them.
 //
 // A rule is two words, each a kind and a number: a symbol's number and what stands beside the symbol, or the left and the right half of a pair.
+#![tactic(auto)]
+
 ghost use Rattle.std.specs.Prelude.{◌≡◌, ◌+◌, ◌*◌, ◌<◌, length};
 ghost use Rattle.definitions.specs.Table.{chair_of};
 ghost use Rattle.lyndon.specs.Shapes.{Shaped};
@@ -11,7 +13,7 @@ use layout::{KIND, TABLE, TABLE_END};
 use slices::wide;
 
 // A symbol's number and what stands beside it; or the left and the right half of a pair.
-#[derive(Drop)]
+#[derive(Clone, Copy)]
 pub enum Rule {
     Symbol(u32, u32),
     Pair(usize, usize),

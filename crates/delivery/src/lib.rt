@@ -1,4 +1,6 @@
 // Results written to the front of the result slice, or refused by 8 or 9: words, a table that is made, and the text that is loaded or a part of it.
+#![tactic(auto)]
+
 ghost use Rattle.std.specs.Prelude.{◌≡◌, [], ◌∷◌, ◌*◌, ◌≤◌, length, take, drop};
 ghost use Rattle.definitions.specs.Services.{Serves, Answers, Reads, sample_order, writes, range_past_end};
 ghost use Rattle.lists.specs.Parts.{part};

@@ -1,4 +1,6 @@
 // What the program `desk_report` prints, from the bytes that it reads: the name of each heading of the drive, or a refusal.
+#![tactic(auto)]
+
 ghost use Rattle.std.specs.Prelude.{◌≡◌, ◌*◌, ◌≤◌, ◌<◌, length, take};
 ghost use Rattle.definitions.specs.Words.{placed};
 ghost use Rattle.definitions.specs.Programs.{line, lines_of, heading_name, desk_output};
@@ -8,7 +10,7 @@ use lines::{put_line, put_refusal};
 use profile::drive_fits;
 
 // The name of a heading: the first `len` of its bytes.
-#[derive(Drop)]
+#[derive(Clone, Copy)]
 struct Name {
     bytes: [u8; 13],
     len: usize,

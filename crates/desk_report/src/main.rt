@@ -1,5 +1,7 @@
 // The program `desk_report`: reads a drive in the nine-heading profile, and prints the name of each of its samples.
 // What it prints is `answer` of the bytes that are read (crate `desk_output`); `main` reads and writes.
+#![tactic(auto)]
+
 use desk_output::answer;
 use libc::{STDERR_FILENO, STDOUT_FILENO};
 use standard_input::{Input, read_input};

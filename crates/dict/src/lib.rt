@@ -1,4 +1,6 @@
 // A dictionary of rules by their two words, in buckets (specs/Dictionary.antt says what the links hold).
+#![tactic(auto)]
+
 ghost use Rattle.std.specs.Prelude.{◌≡◌, ℕ, ◌+◌, ◌*◌, ◌≤◌, ◌<◌, length, get_or, set};
 ghost use Rattle.lists.specs.Newest.{latest, has_words};
 ghost use Rattle.dict.specs.Dictionary.{bucket_of, Dict};

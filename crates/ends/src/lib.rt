@@ -3,6 +3,8 @@
 //
 // From right to left, the word at a place is joined with the words behind it while it is smaller than the next; one length a place
 // stands for the stack of words. Comparing costs about n * n / 8 symbol steps on the worst text known, (a^k b)^2.
+#![tactic(auto)]
+
 ghost use Rattle.std.specs.Prelude.{◌≡◌, suc, ◌+◌, ◌≤◌, ◌<◌, length, get_or, set, drop};
 ghost use Rattle.definitions.specs.Words.{placed};
 ghost use Rattle.definitions.specs.Table.{marked};

@@ -3,6 +3,8 @@
 // A rule has an entry, the number of rules that are met before it, and a place at which its string stands in what the root spells. Of a pair the left half
 // is entered where the rule is, the right half once the left is met. A half that was met before is passed over; another gets its entry and its place, and those
 // that it meets end with itself. So each rule must come right behind its halves.
+#![tactic(auto)]
+
 ghost use Rattle.std.specs.Prelude.{◌≡◌, true, false, ◌+◌, ◌≤◌, ◌<◌, length};
 ghost use Rattle.definitions.specs.Table.{rule_count};
 ghost use Rattle.layout.specs.Layout.{WORK};

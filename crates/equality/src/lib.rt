@@ -1,4 +1,6 @@
 // Whether two lent slices of words hold the same.
+#![tactic(auto)]
+
 ghost use Rattle.std.specs.Prelude.{◌≡◌, ◌≤◌, length, take};
 ghost use Rattle.definitions.specs.Words.{same};
 

@@ -2,6 +2,8 @@
 //
 // Each pending rule spells at least one symbol, so the walk stops at 2,048 symbols written and pending together: a table whose strings
 // double at each rule costs no more than any other.
+#![tactic(auto)]
+
 ghost use Rattle.std.specs.Prelude.{◌≡◌, ◌+◌, ◌≤◌, ◌<◌, length};
 ghost use Rattle.definitions.specs.Table.{rank_of_number};
 ghost use Rattle.lyndon.specs.Shapes.{Shaped};
@@ -15,21 +17,21 @@ use ranks::rank_of_number;
 use slices::{put, wide};
 
 // The root is so many ranks, or more than 2,048.
-#[derive(Drop)]
+#[derive(Clone, Copy)]
 pub enum Expansion {
     Ranks(usize),
     TooLong,
 }
 
 // Where the walk over a table stands: a rule to spell, so many symbols written, so many rules pending.
-#[derive(Drop)]
+#[derive(Clone, Copy)]
 pub struct Place {
     pub rule: usize,
     pub written: usize,
     pub pending: usize,
 }
 
-#[derive(Drop)]
+#[derive(Clone, Copy)]
 pub enum Turn {
     Next(Place),
     Whole(usize),

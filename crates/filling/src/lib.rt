@@ -4,6 +4,8 @@
 //
 // A symbol's rank is stored; of a pair a half that stands elsewhere is copied. Every word that is written is the one that the root spells there, so copies may
 // overlap and be overwritten.
+#![tactic(auto)]
+
 ghost use Rattle.std.specs.Prelude.{◌≡◌, true, false, ◌+◌, ◌*◌, ◌≤◌, ◌<◌, length, get_or};
 ghost use Rattle.definitions.specs.Table.{rule_count, is_table};
 ghost use Rattle.layout.specs.Layout.{length_in, place_in};

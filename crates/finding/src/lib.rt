@@ -1,5 +1,7 @@
 // Searching the text that is loaded, in the order that the services speak of: its finds of a pattern counted, or written to the front of the result slice
 // or refused by 9; and the listed cuts of a pattern, written or refused likewise. Where the text is steps, the pattern's steps are searched for, behind the first sample.
+#![tactic(auto)]
+
 ghost use Rattle.std.specs.Prelude.{◌≡◌, [], ◌∷◌, ◌≤◌, ◌<◌, length, drop};
 ghost use Rattle.definitions.specs.declared.Content.TheVariants.{Steps};
 ghost use Rattle.definitions.specs.Table.{table_of};

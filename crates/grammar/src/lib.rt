@@ -1,5 +1,7 @@
 // The table of a text's Lyndon grammar, in the work slice and in the order that the services speak of: the ends of its Lyndon words, then its rules, numbered, then
 // the chair number.
+#![tactic(auto)]
+
 ghost use Rattle.std.specs.Prelude.{◌≡◌, ◌≤◌, length};
 ghost use Rattle.lyndon.specs.Stored.{Stored};
 ghost use Rattle.definitions.specs.Grammar.{order as order_of};

@@ -2,6 +2,8 @@
 //
 // The left half must be smaller than the right, and where it is a pair itself, its right half not smaller than the rule's: the two halves of every rule are then
 // its standard factorization.
+#![tactic(auto)]
+
 ghost use Rattle.std.specs.Prelude.{◌≡◌, not, ◌+◌, ◌-◌, ◌≤◌, ◌<◌, length};
 ghost use Rattle.definitions.specs.Words.{lexlt};
 ghost use Rattle.lists.specs.Parts.{part};

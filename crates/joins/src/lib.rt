@@ -1,4 +1,6 @@
 // Testing a join: whether a pattern straddles two strings that stand one behind the other, a standard factorization, and at which of its listed cuts.
+#![tactic(auto)]
+
 ghost use Rattle.std.specs.Prelude.{◌≡◌, cond, ◌+◌, ◌-◌, ◌≤◌, ◌<◌, length};
 ghost use Rattle.definitions.specs.Words.{same};
 ghost use Rattle.lists.specs.Parts.{part};
@@ -22,7 +24,7 @@ pub fn longest_tail(work: &[u32], m: usize, n: usize) -> usize
 }
 
 // What is found at a join, as it stands in FOUND, and how many tests are made up to there.
-#[derive(Drop)]
+#[derive(Clone, Copy)]
 pub struct Tested {
     pub found: u32,
     pub tests: usize,

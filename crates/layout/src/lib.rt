@@ -32,6 +32,8 @@
 //     PATTERN   8960   ranks of the pattern                  2048
 //     CUTS      11008  its listed cuts, then NO_CUT          12
 //     TABLE     11520  the table                             4608
+#![tactic(auto)]
+
 pub const LONGEST: usize = 2048;
 
 pub const CLOSINGS: usize = 4096;

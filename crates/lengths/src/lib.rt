@@ -1,5 +1,7 @@
 // The length of each rule's string, from the first rule up, in a table that comes from anywhere. A string of more than 2,048 symbols is no rule's of
 // a marked drive: so rules that double end here.
+#![tactic(auto)]
+
 ghost use Rattle.std.specs.Prelude.{◌≡◌, true, false, ◌+◌, ◌<◌, length};
 ghost use Rattle.definitions.specs.declared.Order.{Order};
 ghost use Rattle.definitions.specs.Table.{rule_string, rule_count, is_table};

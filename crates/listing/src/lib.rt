@@ -1,6 +1,8 @@
 // The occurrences of a pattern that are counted, listed by the rules of the table from the root down: in a pair rule those of its left
 // half, the one at its join, those of its right half. A loop goes down the right halves; a left half is a call where it is a pair with
 // occurrences.
+#![tactic(auto)]
+
 ghost use Rattle.std.specs.Prelude.{◌≡◌, [], ◌∷◌, ◌+◌, ◌≤◌, length, drop};
 ghost use Rattle.definitions.specs.Words.{placed};
 ghost use Rattle.definitions.specs.Occurrences.{occurrences};

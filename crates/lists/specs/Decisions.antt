@@ -105,6 +105,7 @@ module _ (c : Check) (n : ℕ) {r : Answer} (e : r ≡ checked c n) where
     where
       go : (d : Check) × First d (c ∷ []) × (r ≡ Refused d.number d.place) → (c.met ≡ true) × (r ≡ Refused c.number c.place)
       go (d, met q, g) = (q, g)
+      go (d, later _ _ x8, g) = elim x8 [ ]
 
   pub done_met : {a : ℕ} → r ≡ Done a → (c.met ≡ false) × (a ≡ n)
   unfolding first_met

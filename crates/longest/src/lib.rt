@@ -2,6 +2,8 @@
 //
 // `ends` makes them from the ranks and writes them over the lengths of the rules, so the text's length is taken before. The first of them is that of the mark.
 // It costs what `ends` costs, whatever the position: on the worst text known, (a^k b)^2, about n * n / 8 symbol steps.
+#![tactic(auto)]
+
 ghost use Rattle.std.specs.Prelude.{◌≡◌, [], ◌∷◌, map, ◌+◌, length};
 ghost use Rattle.definitions.specs.Words.{lyndon_length, lyndon_array};
 ghost use Rattle.definitions.specs.Table.{rank_of};

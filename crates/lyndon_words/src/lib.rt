@@ -1,4 +1,6 @@
 // The longest Lyndon words of a drive: the length of the one that begins at a position, and the lengths at all positions.
+#![tactic(auto)]
+
 ghost use Rattle.std.specs.Prelude.{[], ◌∷◌};
 ghost use Rattle.definitions.specs.Services.{Serves, Answers, sample_order, lyndon_length_service, lyndon_array_service};
 

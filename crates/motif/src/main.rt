@@ -1,5 +1,7 @@
 // The program `motif`: reads a motif and a drive, and prints how many rules the drive has and where the motif begins in it.
 // What it prints is `answer` of the bytes that are read (crate `motif_output`); `main` reads and writes.
+#![tactic(auto)]
+
 use libc::{STDERR_FILENO, STDOUT_FILENO};
 use motif_output::answer;
 use standard_input::{Input, read_input};

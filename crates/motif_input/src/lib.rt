@@ -1,4 +1,6 @@
 // What the program `motif` reads: whether it is short enough, and where in it the motif ends and the drive begins.
+#![tactic(auto)]
+
 ghost use Rattle.std.specs.Prelude.{◌≡◌, ◌≤◌, length, drop};
 ghost use Rattle.definitions.specs.Programs.{motif_of, drive_of, input_too_long};
 ghost use Rattle.lists.specs.Decisions.{checked};

@@ -1,4 +1,6 @@
 // What the program `motif` prints, from the bytes that it reads: how many rules the drive has and where the motif begins in it, or a refusal.
+#![tactic(auto)]
+
 ghost use Rattle.std.specs.Prelude.{◌≡◌, [], ◌∷◌, ◌++◌, ◌+◌, ◌*◌, ◌≤◌, length};
 ghost use Rattle.definitions.specs.Words.{placed};
 ghost use Rattle.definitions.specs.Services.{Serves, Answers, sample_order};

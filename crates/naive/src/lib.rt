@@ -1,4 +1,6 @@
 // A naive scanner, written apart from the library: the pattern is compared with the text at every place, sample by sample.
+#![tactic(auto)]
+
 ghost use Rattle.std.specs.Prelude.{◌≡◌, cond, [], ◌∷◌, ◌+◌, ◌≤◌, ◌<◌, length, drop, set};
 ghost use Rattle.definitions.specs.Words.{placed, begins};
 ghost use Rattle.definitions.specs.Occurrences.{occurrences};

@@ -1,4 +1,6 @@
 // How many distinct runs of q samples a drive has, naively and apart from the library: a run is counted where it stands at no later place.
+#![tactic(auto)]
+
 ghost use Rattle.std.specs.Prelude.{◌≡◌, ◌+◌, ◌≤◌, ◌<◌, length, take, drop, ltb};
 ghost use Rattle.definitions.specs.Occurrences.{occurrences};
 ghost use Rattle.definitions.specs.Census.{census_runs};

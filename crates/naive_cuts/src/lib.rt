@@ -1,5 +1,7 @@
 // The cuts of a pattern that are listed, naively and apart from the library: every cut is tried as the definition has it, its tail beside the tail of
 // every cut, and each stretch before it.
+#![tactic(auto)]
+
 ghost use Rattle.std.specs.Prelude.{◌≡◌, map, ◌≤◌, length};
 ghost use Rattle.definitions.specs.Words.{placed, begins};
 ghost use Rattle.definitions.specs.Occurrences.{not_greater_at_difference, is_live, word_again, is_listed, pattern_cuts};

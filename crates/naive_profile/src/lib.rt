@@ -1,4 +1,6 @@
 // Whether a drive is in the nine-heading profile, naively and apart from the library: from the last byte down to the first.
+#![tactic(auto)]
+
 ghost use Rattle.std.specs.Prelude.{◌≡◌};
 ghost use Rattle.definitions.specs.Profile.{first_off, is_profile};
 

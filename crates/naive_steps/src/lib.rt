@@ -1,5 +1,7 @@
 // The finds of a pattern by its steps, naively and apart from the library: at every position of the drive each step is compared with the pattern's, as a
 // difference of two samples.
+#![tactic(auto)]
+
 ghost use Rattle.std.specs.Prelude.{◌≡◌, ◌+◌, ◌≤◌, ◌<◌, length, drop, get_or};
 ghost use Rattle.definitions.specs.Words.{placed, begins};
 ghost use Rattle.definitions.specs.Steps.{step, steps_of, step_finds};

@@ -1,5 +1,7 @@
 // The tests of a search, counted naively and apart from the library: the length of each rule's string, from the first rule up, and then every rule
 // beside every cut, as the definition has it.
+#![tactic(auto)]
+
 ghost use Rattle.std.specs.Prelude.{◌≡◌, List, [], ℕ, ◌+◌, ◌*◌, ◌≤◌, ◌<◌, length, get_or};
 ghost use Rattle.definitions.specs.declared.Order.{Order};
 ghost use Rattle.definitions.specs.Table.{number_of, string_of, strings, rule_count};

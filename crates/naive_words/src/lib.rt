@@ -1,5 +1,7 @@
 // Longest Lyndon words, naively and apart from the library: every length is tried, every suffix is compared, sample by sample. `precedes` alone knows
 // the order of samples.
+#![tactic(auto)]
+
 ghost use Rattle.std.specs.Prelude.{◌≡◌, map, ◌≤◌, length, ltb};
 ghost use Rattle.definitions.specs.Words.{lexlt, lyndon, lyndon_length};
 ghost use Rattle.definitions.specs.Table.{rank_of};

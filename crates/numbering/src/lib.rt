@@ -1,5 +1,7 @@
 // The rules of a text's Lyndon grammar, numbered in the work slice: the mark's rule is pushed, then sample after sample its rule, and the two rules
 // on top are joined as often as joins close behind it.
+#![tactic(auto)]
+
 ghost use Rattle.std.specs.Prelude.{◌≡◌, ℕ, ◌+◌, ◌<◌, length, get_or};
 ghost use Rattle.layout.specs.Layout.{LINKS};
 ghost use Rattle.stack.specs.Areas.{Rules, Holds, Below};

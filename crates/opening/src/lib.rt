@@ -1,4 +1,6 @@
 // The one opening of every service that is handed something stored: its checks in order, then what is stored stands in the work slice.
+#![tactic(auto)]
+
 ghost use Rattle.std.specs.Prelude.{◌≤◌, length};
 ghost use Rattle.lyndon.specs.Shapes.{Shaped};
 ghost use Rattle.layout.specs.Layout.{WORK};

@@ -3,6 +3,8 @@
 //
 // The lengths go from the first rule up; the places from the root down: a rule's left half stands where the rule does, its right half behind it.
 // Each pass reads a rule once. A rule that is a half of several rules keeps the place that was stored last: any of them is right.
+#![tactic(auto)]
+
 ghost use Rattle.std.specs.Prelude.{◌≡◌, ◌+◌, ◌<◌, length};
 ghost use Rattle.definitions.specs.Table.{rule_string};
 ghost use Rattle.layout.specs.Layout.{PLACES};

@@ -1,4 +1,6 @@
 // A pattern placed in the work slice, beside the text that is loaded: its ranks, and its listed cuts with NO_CUT behind them.
+#![tactic(auto)]
+
 ghost use Rattle.std.specs.Prelude.{List, ℕ, ◌≤◌, ◌<◌, length};
 ghost use Rattle.layout.specs.Layout.{WORK};
 ghost use Rattle.state.specs.State.{Loaded};

@@ -1,4 +1,6 @@
 // Whether a drive is in the nine-heading profile: no byte above 8, and at rest at both ends.
+#![tactic(auto)]
+
 ghost use Rattle.std.specs.Prelude.{◌≡◌, true, false, ◌≤◌, length};
 ghost use Rattle.definitions.specs.Words.{every};
 ghost use Rattle.definitions.specs.Profile.{on_heading, first_off, at_rest};

@@ -1,4 +1,6 @@
 // Bytes, ranks and symbol numbers: all that depends on the order of samples.
+#![tactic(auto)]
+
 ghost use Rattle.std.specs.Prelude.{◌≡◌, map, ◌≤◌, ◌<◌, length};
 ghost use Rattle.definitions.specs.Words.{placed};
 ghost use Rattle.definitions.specs.Table.{rank_of, byte_of, number_of_rank, rank_of_number};

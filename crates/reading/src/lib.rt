@@ -1,4 +1,6 @@
 // Reading a table back, whole or in part.
+#![tactic(auto)]
+
 ghost use Rattle.std.specs.Prelude.{[], ◌∷◌};
 ghost use Rattle.definitions.specs.Services.{Serves, Reads, Answers, sample_order, read_service, extract_service};
 

@@ -1,4 +1,6 @@
 // The services that rearrange a drive to its steps, and restore it.
+#![tactic(auto)]
+
 ghost use Rattle.std.specs.Prelude.{◌≡◌, [], ◌∷◌, length};
 ghost use Rattle.definitions.specs.Services.{Serves, Answers, text_too_long, result_too_short, to_steps_service, from_steps_service};
 ghost use Rattle.lists.specs.Decisions.{answered};

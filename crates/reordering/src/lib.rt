@@ -1,5 +1,7 @@
 // The table that a text loaded in another order has in the order that the services speak of, written to the front of the result slice, or refused by 9: the ranks
 // are turned into those of that order where they stand, and the table is made from them.
+#![tactic(auto)]
+
 ghost use Rattle.std.specs.Prelude.{◌≡◌, [], ◌∷◌, map, length};
 ghost use Rattle.definitions.specs.Grammar.{order as order_of};
 ghost use Rattle.definitions.specs.Table.{rank_of, byte_of, marked, table_of};

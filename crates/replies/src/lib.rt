@@ -1,4 +1,6 @@
 // Answers as structs and forms as enums, for interfaces without enums.
+#![tactic(auto)]
+
 ghost use Rattle.std.specs.Prelude.{◌≡◌};
 ghost use Rattle.definitions.specs.Services.{done, refused, outcome_of, read_outcome};
 ghost use Rattle.definitions.specs.Replies.{Replies, content_of};

@@ -1,5 +1,7 @@
 // The checks of what is asked for and written, each a small function that answers its refusal or goes on with what was accepted; and the answers to
 // reading a table back, which has a chair number, and to a search, which has the number of its tests.
+#![tactic(auto)]
+
 ghost use Rattle.std.specs.Prelude.{◌≡◌};
 ghost use Rattle.definitions.specs.Services.{result_too_short, either_too_short, range_past_end};
 ghost use Rattle.lists.specs.Decisions.{checked};

@@ -3,6 +3,8 @@
 //
 // An occurrence in a pair rule lies in one of its halves or straddles its join, and there at a listed cut. A rule's string stands somewhere in the
 // text, so a cut costs one comparison.
+#![tactic(auto)]
+
 ghost use Rattle.std.specs.Prelude.{◌≡◌, ◌+◌, ◌*◌, ◌/◌, ◌%◌, ◌≤◌, ◌<◌, length};
 ghost use Rattle.layout.specs.Layout.{PACK, Readable, count_in, join_cut_in};
 ghost use Rattle.joins.specs.Joining.{longest_tail};

@@ -1,5 +1,7 @@
 // The distinct runs of q samples of a text, and how often each begins in it: listed by their keys, and delivered to two result slices or refused by 9. A run is here
 // what a census lists; the runs of a pattern, from which its cuts come, are another thing (crate `runs`).
+#![tactic(auto)]
+
 ghost use Rattle.std.specs.Prelude.{◌≡◌, [], ◌∷◌, map, ◌≤◌, ◌<◌, length};
 ghost use Rattle.definitions.specs.Services.{Serves, Answers, sample_order, writes_both};
 ghost use Rattle.definitions.specs.Census.{census_runs, census_counts, joined};

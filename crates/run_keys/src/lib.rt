@@ -1,4 +1,6 @@
 // A run of at most eight samples as a number of 64 bits, its key: keys compare as the runs do, and a run is written from its key.
+#![tactic(auto)]
+
 ghost use Rattle.std.specs.Prelude.{◌≡◌, map, ◌*◌, ◌≤◌, ◌<◌, length};
 ghost use Rattle.definitions.specs.Words.{placed};
 ghost use Rattle.definitions.specs.Census.{runs_of, joined};

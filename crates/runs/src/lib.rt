@@ -5,6 +5,8 @@
 // the greater one, all of that is one longer word; where it is the smaller one, the run is broken. Then its whole copies are left, and the next run begins.
 // Where a run reaches the pattern's end, the starts of its whole copies are live, and no other cut from its start up to its front is; of these the first is
 // listed, and the last if no front follows it. Fewer than two pairs of samples are compared for each sample of the pattern. No scratch memory.
+#![tactic(auto)]
+
 ghost use Rattle.std.specs.Prelude.{◌≡◌, ◌&&◌, map, ◌+◌, ◌*◌, ◌/◌, ◌≤◌, ◌<◌, length, get_or, ltb};
 ghost use Rattle.definitions.specs.Table.{rank_of};
 ghost use Rattle.runs.specs.Runs.{Scanned};
@@ -14,7 +16,7 @@ use ranks::rank_of;
 use tails::first_difference;
 
 // The run from `start` up to `end`; `back` and `end` are a copy apart, and `next` is behind the whole copies.
-#[derive(Drop)]
+#[derive(Clone, Copy)]
 pub struct Run {
     pub start: usize,
     pub back: usize,

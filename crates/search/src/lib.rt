@@ -1,5 +1,7 @@
 // The occurrences of a pattern in the text that is loaded, counted by the rules of its table, from the first rule up; and the tests, at most n + 2 - m
 // for m samples among n. Equal samples cost most.
+#![tactic(auto)]
+
 ghost use Rattle.std.specs.Prelude.{◌≡◌, List, ℕ, ◌+◌, ◌≤◌, ◌<◌, length, drop};
 ghost use Rattle.definitions.specs.declared.Order.{Order};
 ghost use Rattle.definitions.specs.Table.{table_of, rule_count};
@@ -17,7 +19,7 @@ use rule_finds::found_in;
 use slices::{clear, put};
 
 // How often a pattern occurs, and how many tests the search made.
-#[derive(Drop)]
+#[derive(Clone, Copy)]
 pub struct Totals {
     pub occurrences: usize,
     pub tests: usize,

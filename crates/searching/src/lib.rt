@@ -1,4 +1,6 @@
 // The listed cuts of a pattern; counting its finds, and listing them.
+#![tactic(auto)]
+
 ghost use Rattle.std.specs.Prelude.{[], ◌∷◌};
 ghost use Rattle.definitions.specs.Services.{Serves, Answers, Searches, sample_order, count_service, locate_service, cuts_service};
 

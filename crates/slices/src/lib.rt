@@ -1,4 +1,6 @@
 // Small functions on lent slices of words: store, clear, copy; a word as an index.
+#![tactic(auto)]
+
 ghost use Rattle.std.specs.Prelude.{◌≡◌, ◌≤◌, ◌<◌, length, set, replicate};
 ghost use Rattle.definitions.specs.Words.{placed};
 

@@ -1,4 +1,6 @@
 // Spelling the text that is loaded, in the order that the services speak of: whole, by recursion over the rules that begin with the mark, or a part of it from its ranks.
+#![tactic(auto)]
+
 ghost use Rattle.std.specs.Prelude.{◌≡◌, map, ◌+◌, ◌≤◌, length, take, drop};
 ghost use Rattle.definitions.specs.Words.{placed};
 ghost use Rattle.definitions.specs.Table.{byte_of};

@@ -1,5 +1,7 @@
 // The stack of rules in the work slice: pushing a rule, which is looked up by its two words and added if it is new, and joining the two
 // rules on top.
+#![tactic(auto)]
+
 ghost use Rattle.std.specs.Prelude.{◌≡◌, ℕ, ◌≤◌, ◌<◌, length};
 ghost use Rattle.lists.specs.Newest.{latest, has_words};
 ghost use Rattle.lists.specs.Parts.{part};
@@ -12,7 +14,7 @@ use layout::{LEFT_HALF, LINKS, RIGHT_HALF, STACK, TABLE, TABLE_END};
 use slices::put;
 
 // How many rules there are, and how many stand on the stack.
-#[derive(Drop)]
+#[derive(Clone, Copy)]
 pub struct Counts {
     pub rules: usize,
     pub depth: usize,

@@ -1,11 +1,13 @@
 // Standard input, as the programs read it: to its end, or until a slice is full.
+#![tactic(auto)]
+
 ghost use Rattle.std.specs.Prelude.{◌≡◌, length};
 ghost use Rattle.standard_input.specs.Reading.{Fits, answer_at};
 
 use libc::STDIN_FILENO;
 
 // So many bytes were read, or a read failed.
-#[derive(Drop)]
+#[derive(Clone, Copy)]
 pub enum Input {
     Read(usize),
     Failed,

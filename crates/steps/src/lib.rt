@@ -1,6 +1,8 @@
 // A drive rearranged to its steps, and restored: wrapping subtraction forward, wrapping addition back.
 //
 // The sample before the first is taken to be 0: the first sample is its own step from there, and so is kept.
+#![tactic(auto)]
+
 ghost use Rattle.std.specs.Prelude.{◌≡◌, ◌<◌, ◌≤◌, ◌∷◌, length, slice_index};
 ghost use Rattle.definitions.specs.Words.{placed};
 ghost use Rattle.definitions.specs.Steps.{to_steps, from_steps};

@@ -2,6 +2,8 @@
 //
 // No two rules are alike; no rule's string is too long; the root meets all rules in their order; the halves of each are in order where the rule is written; and
 // the root spells the mark and then samples. So the table is the one of those samples, and of no others.
+#![tactic(auto)]
+
 ghost use Rattle.std.specs.Prelude.{◌≡◌, true, false, ◌≤◌, ◌<◌, length};
 ghost use Rattle.lyndon.specs.Shapes.{Shaped};
 ghost use Rattle.layout.specs.Layout.{WORK};

@@ -1,4 +1,6 @@
 // Two tails of a pattern, compared where they stand: both are parts of the slice that was handed over, and nothing is copied.
+#![tactic(auto)]
+
 ghost use Rattle.std.specs.Prelude.{◌≡◌, ◌≤◌};
 ghost use Rattle.definitions.specs.Words.{first_difference};
 

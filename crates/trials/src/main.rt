@@ -1,6 +1,8 @@
 // The program `trials`: each line of its input has a drive and a motif, with a space between them. It prints what the library says of them, and ' by both' where
 // the naive side says the same, ' by all' where single calls do too: the places and the tests of a search, the drive's Lyndon array, the motif's cuts, the places of
 // a search by steps, and building and checking in the nine-heading profile. The file `stdout` has what is printed.
+#![tactic(auto)]
+
 ghost use Rattle.std.specs.Prelude.{◌≤◌, length};
 
 use definitions::{Answer, Content};

@@ -2,6 +2,8 @@
 // dictionary at the front of the work slice, and then linked there. A pair of which the rule before it is a half is surely new.
 //
 // Rule 0 must be the mark, and no other rule may be: so the words of two rules are the same exactly when the rules are.
+#![tactic(auto)]
+
 ghost use Rattle.std.specs.Prelude.{◌≡◌, true, false, ◌<◌};
 ghost use Rattle.definitions.specs.declared.Order.{Order};
 ghost use Rattle.definitions.specs.Table.{rule_count, is_table};
