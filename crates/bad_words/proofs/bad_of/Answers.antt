@@ -1,0 +1,47 @@
+-- `bad_of` tests for a left half first, then for a symbol.
+use Rattle.std.proofs.Common.{◌≡◌, ℕ, cond, sym, ◌∙◌, arith}
+use Rattle.lists.specs.Bools.{cond_true, cond_false}
+use Rattle.bad_words.proofs.Words.{bad_of, left_bad, other_bad, symbol_bad}
+use Rattle.bad_words.proofs.bad_of.Lts as lts
+use Rattle.bad_words.proofs.bad_of.Reads as reads
+use Rattle.bad_words.proofs.bad_of.Goals as goal
+
+abbrev After-is_half-then-is_half : Type 0
+After-is_half-then-is_half = lts.After-is_half2 reads.Pre reads.Post
+
+abbrev After-is_beside_symbol : Type 0
+After-is_beside_symbol = lts.After-is_beside_symbol reads.Pre reads.Post
+
+-- behind a left half, and behind a symbol
+left : (c : After-is_half-then-is_half) → let a = c.args in ◌≡◌ {A = ℕ} (bad_of a.r a.x a.y) (cond c.is_half-then-is_half.result 0 2)
+left c =
+    let a = c.args in
+    rw c.is_half-then-is_half.ensures (left_bad a.r a.x a.y c.requires (sym c.is_half.ensures ∙ c.if-is_half.true))
+
+symbol : (c : After-is_beside_symbol) → let a = c.args in ◌≡◌ {A = ℕ} (bad_of a.r a.x a.y) (cond c.is_beside_symbol.result 0 2)
+symbol c =
+    let a = c.args in
+    rw c.is_beside_symbol.ensures (symbol_bad a.r a.x a.y c.requires (sym c.is_half.ensures ∙ c.if-is_half.false) (omega (arith, c.if-x-gt256.false)))
+
+pub returns-then-x-gt256 : goal.returns-then-x-gt256
+returns-then-x-gt256 c =
+    let a = c.args in
+    sym (other_bad a.r a.x a.y c.requires (sym c.is_half.ensures ∙ c.if-is_half.false) c.if-x-gt256.true)
+
+pub is_half-requires : goal.is_half-requires
+is_half-requires c = omega (arith, c.requires)
+
+pub is_half-requires-then-is_half : goal.is_half-requires-then-is_half
+is_half-requires-then-is_half c = omega (arith, c.requires)
+
+pub returns-then-is_half-2 : goal.returns-then-is_half-2
+returns-then-is_half-2 c = sym (left c.before.before ∙ cond_true _ 0 2 c.if-is_half-2.true)
+
+pub returns-then-is_half : goal.returns-then-is_half
+returns-then-is_half c = sym (left c.before.before ∙ cond_false _ 0 2 c.if-is_half-2.false)
+
+pub returns-then-is_beside_symbol : goal.returns-then-is_beside_symbol
+returns-then-is_beside_symbol c = sym (symbol c.before.before ∙ cond_true _ 0 2 c.if-is_beside_symbol.true)
+
+pub returns : goal.returns
+returns c = sym (symbol c.before.before ∙ cond_false _ 0 2 c.if-is_beside_symbol.false)

@@ -1,0 +1,9 @@
+-- `sirbolta_check` is `check`.
+use mathlib.Core.Path.{◌∙◌, ap}
+use borrow.Author.Rules.{rules}
+use Rattle.definitions.specs.Replies.{reply_of}
+use Rattle.lists.specs.Serving.{said}
+use Rattle.capi.proofs.sirbolta_check.Goals as goal
+
+pub returns : goal.returns
+returns c = said (λ o e. c.replied.ensures ∙ ap reply_of e) c.check.ensures

@@ -1,0 +1,17 @@
+-- `put_at` writes the sample at a place a turn. The invariant: it is written at the places passed.
+use mathlib.Core.Path.{◌≡◌, refl, sym, ◌∙◌, ap}
+use mathlib.Core.List.{List}
+use Prim.Native.Nat.{ℕ, ◌+◌, ◌-◌, ◌≤◌}
+use native.Mathlib.Omega.{arith}
+use native.Mathlib.Numerals.{add-one}
+use lib.ListN.{length, take, get_or, set, length-set}
+use lib.Seq.{take-suc, take-length}
+use Rattle.lists.specs.Members.{at_in}
+use Rattle.census.specs.Samples.{put_all, put_none, put_more}
+use Rattle.census.proofs.put_at.Given as goal
+
+abbrev pub invariant-loop-i : goal.invariant-loop-i
+invariant-loop-i l = (l.i ≤ length l.places) × (length l.drive ≡ length l.initial.drive) × (l.drive ≡ put_all (take l.i l.places) l.sample l.initial.drive)
+
+abbrev pub decreases-loop-i : goal.decreases-loop-i
+decreases-loop-i l = length l.places - l.i

@@ -1,0 +1,34 @@
+-- `put_tally` writes the bytes of a run, and in the rest of the slice its count, which ends the line.
+use Prim.Native.Nat.{◌+◌, ◌*◌, ◌≤◌}
+use native.Mathlib.Omega.{arith}
+use lib.ListN.{length, length-take, length-drop}
+use borrow.Author.Rules.{rules}
+use Rattle.definitions.specs.Programs.{spaced}
+use Rattle.decimals.proofs.Digits.{line_most}
+use Rattle.lines.proofs.Lines.{spaced_most, named_stored}
+use Rattle.census_output.proofs.put_tally.Goals as goal
+
+-- four bytes for each byte of the run
+module _ (b : tie.After-put-spaced) where
+  small : length (spaced b.before.before.before.before.args.run.now) ≤ 4 * length b.before.before.before.before.args.run.now
+  small = let k = b.before.before.before in spaced_most k.before.args.run.now (λ i h. omega (arith, k.shared-slice-known.given i))
+
+  room : b.put-spaced.result + 11 ≤ length b.before.before.before.before.args.out.now
+  room = omega (arith, small, b.put-spaced.ensures.0, b.before.before.before.before.pre)
+
+pub slice_bounds-put_decimal_line-count : goal.slice_bounds-put_decimal_line-count
+slice_bounds-put_decimal_line-count c = omega (arith, room b, c.put_spaced-n.auto.1.0)
+
+pub slice_bounds-put_decimal_line-start : goal.slice_bounds-put_decimal_line-start
+slice_bounds-put_decimal_line-start c = omega (arith, room b, c.put_spaced-n.auto.1.0)
+
+pub put_decimal_line-m-requires : goal.put_decimal_line-m-requires
+put_decimal_line-m-requires c = simp (length-take, length-drop) (omega (arith, room b, c.put_spaced-n.auto.1.0))
+
+pub overflow_add-result : goal.overflow_add-result
+overflow_add-result c =
+    omega (arith, room b, c.put_decimal_line-m.ensures.value, line_most c.args.count)
+
+pub returns : goal.returns
+returns c =
+    named_stored (spaced c.args.run.now) c.args.count c.args.out.now c.put_spaced-n.result c.put_decimal_line-m.result c.put_spaced-n.new.out c.put_decimal_line-m.new.out (omega (arith, small b, c.requires)) c.put_spaced-n.ensures.value c.put_spaced-n.ensures.out_after c.put_decimal_line-m.ensures.value c.put_decimal_line-m.ensures.out_after

@@ -1,0 +1,11 @@
+-- `size_fits` answers its check.
+use native.Mathlib.Omega.{arith}
+use lib.ListN.{length}
+use borrow.Author.Tests.{lt-ltb, le-ltb}
+use Rattle.checks.proofs.size_fits.Goals as goal
+
+pub returns-then-pattern-gt2047 : goal.returns-then-pattern-gt2047
+returns-then-pattern-gt2047 c = simp (lt-ltb 2047 (length c.args.pattern.now) (omega arith))
+
+pub returns-else-pattern-gt2047 : goal.returns-else-pattern-gt2047
+returns-else-pattern-gt2047 c = simp (le-ltb 2047 (length c.args.pattern.now) (omega arith))

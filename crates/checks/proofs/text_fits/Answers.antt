@@ -1,0 +1,11 @@
+-- `text_fits` answers its check.
+use native.Mathlib.Omega.{arith}
+use lib.ListN.{length}
+use borrow.Author.Tests.{lt-ltb, le-ltb}
+use Rattle.checks.proofs.text_fits.Goals as goal
+
+pub returns-then-text-gt2047 : goal.returns-then-text-gt2047
+returns-then-text-gt2047 c = simp (lt-ltb 2047 (length c.args.text.now) (omega arith))
+
+pub returns-else-text-gt2047 : goal.returns-else-text-gt2047
+returns-else-text-gt2047 c = simp (le-ltb 2047 (length c.args.text.now) (omega arith))

@@ -1,0 +1,97 @@
+-- `in_order` compares the halves, and then the left half's right half with the rule's right half, unless they are one rule.
+use mathlib.Core.Path.{◌≡◌, refl, sym, ◌∙◌, ap}
+use mathlib.Core.Bool.{true}
+use Prim.Native.Nat.{ℕ, ◌+◌, ◌-◌, ◌<◌}
+use native.Mathlib.Omega.{arith}
+use borrow.Author.Rules.{rules}
+use borrow.Author.Tests.{not-true, not-false}
+use mathlib.Core.List.{List}
+use Rattle.definitions.specs.Words.{lexlt}
+use Rattle.definitions.specs.Table.{rule_string, rule_count}
+use Rattle.lists.specs.Parts.{part}
+use Rattle.lyndon.specs.Ruled.{PairOf}
+use Rattle.layout.specs.Layout.{length_in}
+use Rattle.decoding.proofs.Rules.{symbol_read, pair_read}
+use Rattle.halves.specs.Halves.{front, Written}
+use Rattle.halves.proofs.Orders.{order_room, middle_room, halves_test, right_test, not_less, left_symbol, left_pair, left_same}
+use Rattle.halves.proofs.in_order.Lts as lts
+use Rattle.halves.proofs.in_order.Reads as reads
+use Rattle.halves.proofs.in_order.Goals as goal
+
+abbrev After-rule_of-rule : Type 0
+After-rule_of-rule = lts.After-rule_of reads.Pre reads.Post
+
+abbrev In-Pair-2 : Type 0
+In-Pair-2 = lts.After-rule reads.Pre reads.Post
+
+pub is_smaller-requires : goal.is_smaller-requires
+is_smaller-requires c =
+    let (_, _, apart, filled, room) = order_room c.requires in
+    (apart, omega (arith, c.wide-n.ensures, filled), omega (arith, c.wide-n.ensures, room), c.requires.placed.sized.lent.long)
+
+pub returns-then-not-is_smaller : goal.returns-then-not-is_smaller
+returns-then-not-is_smaller c =
+    λ k. not_less k (sym (halves_test k c.is_smaller.result c.wide-n.result c.wide-n.ensures c.is_smaller.ensures) ∙ not-true c.is_smaller.result c.if-not-is_smaller.taken)
+
+-- the left half is smaller than the right
+is_less : (c : After-rule_of-rule) → (k : Written c.args.table.now c.args.work.now c.args.left c.args.right c.args.start c.args.behind)
+    → lexlt (rule_string k.order c.args.table.now c.args.left) (rule_string k.order c.args.table.now c.args.right) ≡ true
+is_less c =
+    λ k. sym (halves_test k c.is_smaller.result c.wide-n.result c.wide-n.ensures c.is_smaller.ensures) ∙ not-false c.is_smaller.result c.if-not-is_smaller.left
+
+-- the left half is a rule
+left_low : {t w : List ℕ} {left right start behind : ℕ} → (k : Written t w left right start behind) → left < rule_count t
+left_low k = omega (arith, k.pair.left, k.low)
+
+pub rule_of-rule-requires : goal.rule_of-rule-requires
+rule_of-rule-requires c =
+    omega (arith, left_low c.requires, c.requires.placed.sized.lent.shaped.even)
+
+is_pair_lem : (c : In-Pair-2) → PairOf c.args.table.now c.args.left c.rule-1.given.0.0 c.rule-1.given.0.1.0
+is_pair_lem c =
+    let (q, f) = c.rule-1.given in
+    pair_read c.args.table.now c.args.left c.requires.placed.sized.lent.shaped (left_low c.requires) q.0 q.1.0 (sym c.rule_of-rule.ensures ∙ f)
+
+pub returns-then-second-right : goal.returns-then-second-right
+returns-then-second-right c =
+    λ k. left_same k (is_less c.before.before.before.before.before k) c.in-Pair.first c.in-Pair.second (is_pair_lem c.before.before.before) c.if-second-right.taken
+
+middle : (c : In-Pair-2) → (c.rule-1.given.0.0 < 2304) × (c.args.start + length_in c.args.work.now c.rule-1.given.0.0 < c.args.behind)
+middle c =
+    middle_room c.requires c.rule-1.given.0.0 c.rule-1.given.0.1.0 (is_pair_lem c)
+
+pub bounds-work-first : goal.bounds-work-first
+bounds-work-first c =
+    omega (arith, middle c.before.before.before.before, c.requires.placed.sized.lent.long)
+
+pub overflow_add-middle : goal.overflow_add-middle
+overflow_add-middle c =
+    let (_, _, apart, filled, room) = order_room c.requires in
+    omega (arith, middle c.before.before.before.before.before, c.wide.ensures, room)
+
+pub is_not_smaller-requires : goal.is_not_smaller-requires
+is_not_smaller-requires c =
+    let (_, _, apart, filled, room) = order_room c.requires in
+    (omega (arith, middle c.before.before.before.before.before, c.wide.ensures), omega (arith, c.wide-n.ensures, filled), omega (arith, c.wide-n.ensures, room), c.requires.placed.sized.lent.long)
+
+pub returns-in-Symbol : goal.returns-in-Symbol
+returns-in-Symbol c =
+    let (q, f) = c.enum_told-1.given in
+    λ k. left_symbol k (is_less c.before.before.before k) q.0 q.1.0 (symbol_read c.args.table.now c.args.left c.requires.placed.sized.lent.shaped (left_low c.requires) q.0 q.1.0 (sym c.rule_of-rule.ensures ∙ f))
+
+pub returns-else-second-right : goal.returns-else-second-right
+returns-else-second-right c =
+    let u = c.in-Pair.first in
+    let v = c.in-Pair.second in
+    let w = c.args.work.now in
+    let middle = c.args.start + c.wide.result in
+    let less = lexlt (part middle (c.args.behind - middle) (front w)) (part c.args.behind c.wide-n.result (front w)) in
+    λ k. c.is_not_smaller.ensures
+    ∙ left_pair k (is_less c.before.before.before.before.before.before.before.before k) u v (is_pair_lem c.before.before.before.before.before.before) less
+    (right_test k u v (is_pair_lem c.before.before.before.before.before.before) less c.wide-n.result middle c.wide-n.ensures (ap (λ (i : ℕ). c.args.start + i) c.wide.ensures) refl)
+
+pub overflow_add-first : goal.overflow_add-first
+overflow_add-first c = omega (arith, middle c.before.before.before)
+
+pub offset_bounds-work-first : goal.offset_bounds-work-first
+offset_bounds-work-first c = omega (arith, middle c.before.before.before)

@@ -1,0 +1,13 @@
+-- `first_fitting` goes down from the end of the list. The loop's invariant: the tails from i on fit. The first cut's does not, so the loop ends behind it.
+use mathlib.Core.Path.{◌≡◌, refl}
+use Prim.Native.Nat.{◌-◌, ◌<◌}
+use native.Mathlib.Omega.{arith}
+use Rattle.joins.specs.Joining.{longest_tail}
+use Rattle.joins.proofs.Joining.{FitBehind, fits_all, short_right, fit_start, fit_more, fit_end}
+use Rattle.joins.proofs.first_fitting.Given as goal
+
+abbrev pub invariant-loop-i : goal.invariant-loop-i
+invariant-loop-i l = (l.low ≡ l.m - l.right) × FitBehind l.work l.m l.n l.right l.i
+
+abbrev pub decreases-loop-i : goal.decreases-loop-i
+decreases-loop-i l = l.i

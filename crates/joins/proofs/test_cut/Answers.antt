@@ -1,0 +1,44 @@
+-- `test_cut` counts one test whatever comes of it.
+use mathlib.Core.Path.{◌≡◌, refl, sym, ◌∙◌, ap}
+use Prim.Native.Nat.{ℕ, ◌+◌, ◌-◌}
+use native.Mathlib.Omega.{arith}
+use borrow.Author.Rules.{rules}
+use borrow.Author.Tests.{not-true, not-false}
+use Rattle.definitions.specs.Words.{same}
+use Rattle.lists.specs.Bools.{cond_true, cond_false}
+use Rattle.lists.specs.Parts.{part}
+use Rattle.layout.specs.Layout.{PATTERN, PACK}
+use Rattle.joins.proofs.test_cut.Lts as lts
+use Rattle.joins.proofs.test_cut.Reads as reads
+use Rattle.joins.proofs.test_cut.Goals as goal
+
+abbrev After-straddles : Type 0
+After-straddles = lts.After-straddles reads.Pre reads.Post
+
+-- what `straddles` answers
+compared : (c : After-straddles) → let a = c.args in c.straddles.result ≡ same (part (a.join - a.c) a.m a.work.now) (part PATTERN a.m a.work.now)
+compared c =
+    let a = c.args in
+    c.straddles.ensures ∙ ap (λ (i : ℕ). same (part (a.join - i) a.m a.work.now) (part PATTERN a.m a.work.now)) c.wide.ensures
+
+pub straddles-requires : goal.straddles-requires
+straddles-requires c =
+    let h = c.requires.0 in
+    let e = c.wide.ensures in
+    (record { some = omega (arith, e, h.some); inside = omega (arith, e, h.inside); short = h.short; front = omega (arith, e, h.front); tail = omega (arith, e, h.tail) }, c.requires.1)
+
+pub returns-then-not-straddles : goal.returns-then-not-straddles
+returns-then-not-straddles c =
+    let a = c.args in
+    let missed = not-true c.straddles.result c.if-not-straddles.true-raw in (
+      sym (cond_false (same (part (a.join - a.c) a.m a.work.now) (part PATTERN a.m a.work.now)) (PACK + a.c) a.before.found (sym (compared c.before.before.before) ∙ missed)),
+      refl,
+    )
+
+pub returns : goal.returns
+returns c =
+    let a = c.args in
+    let hit = not-false c.straddles.result c.if-not-straddles.false-raw in (
+      sym (cond_true (same (part (a.join - a.c) a.m a.work.now) (part PATTERN a.m a.work.now)) (PACK + a.c) a.before.found (sym (compared c.before.before.before) ∙ hit)),
+      refl,
+    )

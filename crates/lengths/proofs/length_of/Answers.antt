@@ -1,0 +1,60 @@
+-- `length_of` answers 1 for a symbol. The halves of a pair are rules before it, whose lengths are stored and not above 2,048.
+use mathlib.Core.Path.{sym, ◌∙◌}
+use Prim.Native.Nat.{◌+◌, ◌≤◌, ◌<◌}
+use native.Mathlib.Omega.{arith}
+use borrow.Author.Rules.{rules}
+use Rattle.lyndon.specs.Ruled.{PairOf}
+use Rattle.layout.specs.Layout.{length_in}
+use Rattle.decoding.proofs.Rules.{symbol_read, pair_read}
+use Rattle.lengths.proofs.Sizes.{rules_few, symbol_length, pair_length, pair_fits}
+use Rattle.lengths.proofs.length_of.Lts as lts
+use Rattle.lengths.proofs.length_of.Reads as reads
+use Rattle.lengths.proofs.length_of.Goals as goal
+
+abbrev In-Pair-2 : Type 0
+In-Pair-2 = lts.After-rule reads.Pre reads.Post
+
+pub rule_of-rule-requires : goal.rule_of-rule-requires
+rule_of-rule-requires c = omega (arith, c.requires.1, c.requires.0.lent.shaped.even)
+
+pub returns-in-Symbol : goal.returns-in-Symbol
+returns-in-Symbol c =
+    let (q, e) = c.enum_told-1.given in
+    symbol_length c.requires.0 q.0 q.1.0 (symbol_read c.args.table.now c.args.r c.requires.0.lent.shaped c.requires.1 q.0 q.1.0 (sym c.rule_of-rule.ensures ∙ e))
+
+is_pair_lem : (c : In-Pair-2) → let a = c.args in PairOf a.table.now a.r c.rule-1.given.0.0 c.rule-1.given.0.1.0
+is_pair_lem c =
+    let (q, e) = c.rule-1.given in
+    pair_read c.args.table.now c.args.r c.requires.0.lent.shaped c.requires.1 q.0 q.1.0 (sym c.rule_of-rule.ensures ∙ e)
+
+room : (c : In-Pair-2) → let a = c.args in
+    (c.rule-1.given.0.0 < 2304) × (c.rule-1.given.0.1.0 < 2304) × (length_in a.work.now c.rule-1.given.0.0 + length_in a.work.now c.rule-1.given.0.1.0 ≤ 4096)
+room c =
+    let (left, right, sum) = pair_fits c.requires.0 c.rule-1.given.0.0 c.rule-1.given.0.1.0 (is_pair_lem c) in
+    let few = rules_few c.requires.0.lent in
+    (omega (arith, c.requires.1), omega (arith, c.requires.1), sum)
+
+pub bounds-work-left : goal.bounds-work-left
+bounds-work-left c = omega (arith, room c.before.before.before, c.requires.0.lent.long)
+
+pub bounds-work-right : goal.bounds-work-right
+bounds-work-right c = omega (arith, room c.before.before.before.before, c.requires.0.lent.long)
+
+pub returns-in-Pair : goal.returns-in-Pair
+returns-in-Pair c =
+    pair_length c.requires.0 c.in-Pair.left c.in-Pair.right (is_pair_lem c.before.before.before.before)
+
+pub overflow_add-result : goal.overflow_add-result
+overflow_add-result c = omega (arith, room c.before.before)
+
+pub offset_bounds-work-left : goal.offset_bounds-work-left
+offset_bounds-work-left c = omega (arith, room c.before.before)
+
+pub overflow_add-result-in-Pair : goal.overflow_add-result-in-Pair
+overflow_add-result-in-Pair c = omega (arith, room c.before.before.before)
+
+pub offset_bounds-work-right : goal.offset_bounds-work-right
+offset_bounds-work-right c = omega (arith, room c.before.before.before)
+
+pub overflow_add-result-in-Pair-2 : goal.overflow_add-result-in-Pair-2
+overflow_add-result-in-Pair-2 c = omega (arith, room c.before.before.before.before)

@@ -1,0 +1,8 @@
+-- `put_line` writes bytes, and behind them the one that ends a line.
+use borrow.Author.Rules.{rules}
+use Rattle.decimals.proofs.Digits.{line_stored}
+use Rattle.lines.proofs.put_line.Goals as goal
+
+pub returns : goal.returns
+returns c =
+    line_stored c.args.bytes.now c.args.out.now c.put_bytes-n.new.out c.put_bytes-n.result c.requires c.put_bytes-n.ensures.value c.put_bytes-n.ensures.out_after

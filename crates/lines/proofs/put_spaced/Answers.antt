@@ -1,0 +1,69 @@
+-- `put_spaced` writes a number and a space a turn, in the rest of the slice. The invariant: those of the bytes passed stand at the front.
+use mathlib.Core.Path.{◌≡◌, refl, ◌∙◌}
+use mathlib.Core.List.{[], ◌∷◌}
+use Prim.Native.Nat.{ℕ, ◌+◌, ◌-◌, ◌≤◌}
+use native.Mathlib.Omega.{arith}
+use lib.ListN.{length, get_or, length-append, length-take, length-drop}
+use Rattle.definitions.specs.Programs.{decimal}
+use Rattle.lists.specs.Lists.{Fronted}
+use Rattle.lines.specs.Turns.{turns}
+use Rattle.lines.proofs.Turns.{turns_none, turns_room, turns_stored, turns_all}
+use Rattle.lines.proofs.Lines.{spaced_at, spaced_turns, byte_most}
+use Rattle.lines.proofs.put_spaced.Lts as lts
+use Rattle.lines.proofs.put_spaced.Reads as reads
+use Rattle.lines.proofs.put_spaced.Goals as goal
+
+abbrev After-shared_slice_known-in-loop-i-1 : Type 0
+After-shared_slice_known-in-loop-i-1 = lts.After-shared_slice_known2 reads.Pre reads.Post goal.the-invariant-loop-i goal.the-decreases-loop-i
+
+pub loop-i-init : goal.loop-i-init
+loop-i-init c =
+    let a = c.args in
+    (omega arith, refl, turns_none (spaced_at a.bytes.now) a.out.now)
+
+-- each number is a byte, and there is room for one more
+module _ (t : tie.After-shared-slice-known2 invariant_loop decreases_loop) where
+  small : (j : ℕ) → length (spaced_at t.before.before.before.before.before.args.bytes.now j) ≤ 4
+  small j = let k = t.before.before.before.before in byte_most (get_or k.before.args.bytes.now j 0) (omega (arith, k.shared-slice-known.given j))
+
+  room : t.before.before.loop.n + 4 ≤ length t.before.before.before.before.before.args.out.now
+  room =
+      let at = t.before.before in
+      let s = at.before.before.before in
+      turns_room (spaced_at s.args.bytes.now) 4 at.loop.i (length s.args.bytes.now) (λ j h. small j) (omega (arith, t.before.loop-test.taken)) s.pre at.loop.inv.2
+
+pub overflow_cast-bytes : goal.overflow_cast-bytes
+overflow_cast-bytes c =
+    record { fits = omega (arith, c.shared_slice_known-1.given c.loop-i.i) }
+
+pub slice_bounds-put_decimal-count : goal.slice_bounds-put_decimal-count
+slice_bounds-put_decimal-count c = omega (arith, room c)
+
+pub slice_bounds-put_decimal-start : goal.slice_bounds-put_decimal-start
+slice_bounds-put_decimal-start c = omega (arith, room c)
+
+-- without what stands behind the number
+digits : (t : After-shared_slice_known-in-loop-i-1) → length (decimal (get_or t.args.bytes.now t.loop-i.i 0)) ≤ 3
+digits t =
+    omega (arith, small t t.loop-i.i, length-append (decimal (get_or t.args.bytes.now t.loop-i.i 0)) (32 ∷ []))
+
+pub put_decimal-n-requires : goal.put_decimal-n-requires
+put_decimal-n-requires c = simp (length-take, length-drop) (omega (arith, room c, digits c.before.before))
+
+pub overflow_add-n : goal.overflow_add-n
+overflow_add-n c =
+    omega (arith, room t, digits c.before.before.before.before.before, c.put_decimal-n.ensures.value ∙ length-append (decimal (get_or c.args.bytes.now c.loop-i.i 0)) _)
+
+pub loop-i-preserved : goal.loop-i-preserved
+loop-i-preserved c =
+    let a = c.args in
+    let more = turns_stored (spaced_at a.bytes.now) c.loop-i.i refl (omega (arith, room t, small t c.loop-i.i)) c.loop-i.invariant.2 c.put_decimal-n.ensures.value c.put_decimal-n.ensures.out_after in
+    (omega arith, more.0, more.1)
+
+pub returns : goal.returns
+returns c =
+    let bytes = c.args.bytes.now in
+    turns_all (spaced_at bytes) c.loop-i.i (length bytes) (omega arith) (spaced_turns bytes) c.loop-i.invariant.2
+
+pub shape_of-out : goal.shape_of-out
+shape_of-out c = c.loop-i.invariant.1

@@ -1,0 +1,28 @@
+-- `list_cut` lists the one occurrence at a join, or none.
+use mathlib.Core.Path.{sym, ◌∙◌, ap}
+use mathlib.Core.List.{List}
+use Prim.Native.Nat.{ℕ, ◌+◌}
+use native.Mathlib.Omega.{arith}
+use lib.ListN.{length}
+use Rattle.listing.specs.Listing.{placed_from}
+use Rattle.listing.proofs.Drives.{drive_cut_none, drive_cut_one}
+use Rattle.listing.proofs.Entries.{from_none}
+use borrow.Author.Rules.{rules}
+use Rattle.listing.proofs.list_cut.Goals as goal
+
+pub returns-then-c-eq0 : goal.returns-then-c-eq0
+returns-then-c-eq0 c =
+    let a = c.args in
+    let e = drive_cut_none a.first a.join a.c c.if-c-eq0.true in
+    (omega (arith, ap length e), sym (ap (λ (l : List ℕ). placed_from a.n l a.result.now) e ∙ from_none a.n a.result.now))
+
+pub list_one-requires : goal.list_one-requires
+list_one-requires c =
+    let a = c.args in
+    (omega (arith, c.requires.1), omega (arith, ap length (drive_cut_one a.first a.join a.c c.if-c-eq0.false), c.requires.2))
+
+pub returns : goal.returns
+returns c =
+    let a = c.args in
+    let e = drive_cut_one a.first a.join a.c c.if-c-eq0.false in
+    (c.list_one.ensures.0 ∙ ap (λ (l : List ℕ). a.n + length l) e, c.list_one.ensures.1 ∙ ap (λ (l : List ℕ). placed_from a.n l a.result.now) e)

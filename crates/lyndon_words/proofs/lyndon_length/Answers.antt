@@ -1,0 +1,38 @@
+-- `lyndon_length` is refused where the table is not opened; else it is decided by the length at the position, and the work slice is cleared.
+use mathlib.Core.Path.{refl}
+use native.Mathlib.Omega.{arith}
+use borrow.Author.Rules.{rules}
+use Rattle.definitions.specs.Services.{sample_order, lyndon_length_service}
+use Rattle.lists.specs.Serving.{answer_refuses}
+use Rattle.opening.proofs.Services.{ready, opening_refused, Succeeded, opening_done, opening_lent}
+use Rattle.lyndon_words.proofs.lyndon_length.Lts as lts
+use Rattle.lyndon_words.proofs.lyndon_length.Reads as reads
+use Rattle.lyndon_words.proofs.lyndon_length.Goals as goal
+
+abbrev In-Done-2 : Type 0
+In-Done-2 = lts.After-a reads.Pre reads.Post
+
+pub returns-in_default : goal.returns-in_default
+unfolding lyndon_length_service
+returns-in_default c =
+    opening_refused _ c.admit-a.ensures c.in_default.is (answer_refuses c.admit-a.result) (λ d. refl)
+
+-- the table is opened
+succeeded : (k : In-Done-2) → let a = k.args in
+    Succeeded sample_order a.table.now a.work.now k.admit-a.new.work k.a-1.given.0.0
+succeeded k = opening_done k.admit-a.ensures k.a-1.given.1
+
+pub slice_bounds-length_loaded-end : goal.slice_bounds-length_loaded-end
+slice_bounds-length_loaded-end c = omega (arith, (succeeded c.before.before).loads.long)
+
+pub length_loaded-b-requires : goal.length_loaded-b-requires
+length_loaded-b-requires c = let x = succeeded c.before.before.before in (ready x.loads, x.rules)
+
+pub clear_front-requires : goal.clear_front-requires
+clear_front-requires c = omega (arith, (succeeded c.before.before.before.before.before.before.before).loads.long)
+
+pub returns : goal.returns
+unfolding lyndon_length_service ready
+returns c =
+    let x = succeeded c.before.before.before.before.before.before.before.before.before.before in
+    opening_lent x (refl, refl) c.length_loaded-b.new.work c.length_loaded-b.auto.1.1.0 c.clear_front.ensures (c.length_loaded-b.ensures (ready x.loads) x.rules)

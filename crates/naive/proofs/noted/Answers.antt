@@ -1,0 +1,10 @@
+-- `noted` stores where the place is one.
+use native.Mathlib.Omega.{arith}
+use borrow.Author.Rules.{rules}
+use Rattle.naive.proofs.noted.Goals as goal
+
+pub returns-then-found : goal.returns-then-found
+returns-then-found c = (simp c.if-found.true, simp c.if-found.true)
+
+pub returns : goal.returns
+returns c = (simp c.if-found.false (omega arith), simp c.if-found.false)

@@ -1,0 +1,12 @@
+-- `lowest_off` goes down from the last byte. The loop's invariant: the lowest of the bytes passed that is above 8 is known.
+use Prim.Native.Nat.{◌-◌}
+use native.Mathlib.Omega.{arith}
+use Rattle.lists.specs.Numbers.{split_lt}
+use Rattle.naive_profile.proofs.Lowest.{LowestFrom, lowest_first}
+use Rattle.naive_profile.proofs.lowest_off.Given as goal
+
+abbrev pub invariant-loop-i : goal.invariant-loop-i
+invariant-loop-i l = LowestFrom l.drive l.i l.lowest
+
+abbrev pub decreases-loop-i : goal.decreases-loop-i
+decreases-loop-i l = l.i

@@ -1,0 +1,34 @@
+-- `length_of` adds the lengths of the rules that a rule's two words name, as they are kept.
+use mathlib.Core.Path.{◌≡◌}
+use Prim.Native.Nat.{◌+◌, ◌*◌}
+use native.Mathlib.Omega.{arith}
+use borrow.Author.Rules.{rules}
+use lib.ListN.{length, get_or}
+use Rattle.definitions.specs.declared.Order.{Order}
+use Rattle.definitions.specs.declared.Order.TheVariants.{Unsigned}
+use Rattle.definitions.specs.Table.{string_of, strings}
+use Rattle.naive_tests.specs.Lengths.{kept}
+use Rattle.naive_tests.proofs.Testing.{symbol_length, pair_length}
+use Rattle.naive_tests.proofs.length_of.Lts as lts
+use Rattle.naive_tests.proofs.length_of.Reads as reads
+use Rattle.naive_tests.proofs.length_of.Goals as goal
+
+abbrev After-length_at-2 : Type 0
+After-length_at-2 = lts.After-length_at2 reads.Pre reads.Post
+
+pub returns-then-x-eq0 : goal.returns-then-x-eq0
+returns-then-x-eq0 c =
+    let a = c.args in
+    let t = a.table.now in
+    λ o. symbol_length o (strings o t a.r) (get_or t (2 * a.r) 0) (get_or t (2 * a.r + 1) 0) c.if-x-eq0.true
+
+pub overflow_add-k : goal.overflow_add-k
+overflow_add-k c =
+    omega (arith, c.length_at.ensures c.args.table.now c.requires.0 Unsigned, c.length_at-2.ensures c.args.table.now c.requires.0 Unsigned)
+
+sum : (c : After-length_at-2) (o : Order) → let a = c.args in
+    kept (c.length_at.result + c.length_at-2.result) ≡ kept (length (string_of o (strings o a.table.now a.r) (get_or a.table.now (2 * a.r) 0) (get_or a.table.now (2 * a.r + 1) 0)))
+sum c o =
+    let t = c.args.table.now in
+    let r = c.args.r in
+    pair_length o (strings o t r) (get_or t (2 * r) 0) (get_or t (2 * r + 1) 0) c.if-x-eq0.false c.length_at.result c.length_at-2.result (c.length_at.ensures t c.requires.0 o) (c.length_at-2.ensures t c.requires.0 o)

@@ -1,0 +1,52 @@
+-- `found_of_one` compares a symbol rule's rank, or adds what both halves of a pair have: one sample has no cut.
+use mathlib.Core.Path.{◌≡◌, refl, sym, ◌∙◌}
+use native.Mathlib.Omega.{arith}
+use borrow.Author.Rules.{rules}
+use Rattle.layout.specs.Layout.{place_in, length_in}
+use Rattle.decoding.specs.declared.Rule.TheVariants.{Pair}
+use Rattle.decoding.specs.Decoding.{rule_in}
+use Rattle.joins.proofs.Joining.{join_one}
+use Rattle.rule_finds.proofs.Counting.{PairKnown, turn_known, pair_known, pair_found}
+use Rattle.rule_finds.proofs.found_of_one.Lts as lts
+use Rattle.rule_finds.proofs.found_of_one.Reads as reads
+use Rattle.rule_finds.proofs.found_of_one.Goals as goal
+
+abbrev In-Pair-2 : Type 0
+In-Pair-2 = lts.After-rule reads.Pre reads.Post
+
+pub found_in_symbol-requires : goal.found_in_symbol-requires
+found_in_symbol-requires c =
+    let (q, e) = c.enum_told-1.given in
+    record { one = c.requires; number = q.0; beside = q.1.0; rule = sym c.rule_in-rule.ensures ∙ e }
+
+pub returns-in_default : goal.returns-in_default
+returns-in_default c h =
+    let (q, e) = c.enum_told-1.given in
+    c.found_in_symbol.ensures record { one = h; number = q.0; beside = q.1.0; rule = sym c.rule_in-rule.ensures ∙ e }
+
+-- the rule is read as a pair
+is_pair_lem : (c : In-Pair-2) → let a = c.args in rule_in a.work.now a.r ≡ Pair c.rule-1.given.0.0 c.rule-1.given.0.1.0
+is_pair_lem c = sym c.rule_in-rule.ensures ∙ c.rule-1.given.1
+
+known : (c : In-Pair-2) → let a = c.args in
+    PairKnown c.rule-1.given.0.0 c.rule-1.given.0.1.0 (place_in a.work.now a.r) a.work.now
+known c = pair_known c.requires.turn c.rule-1.given.0.0 c.rule-1.given.0.1.0 (is_pair_lem c)
+
+pub found-requires : goal.found-requires
+found-requires c =
+    let k = known c.before.before in
+    (k.left, k.right, k.most, k.apart, omega arith)
+
+pub returns : goal.returns
+returns c h =
+    let a = c.args in
+    let w = a.work.now in
+    let u = c.in-Pair.u in
+    let v = c.in-Pair.v in
+    let t = h.turn in
+    pair_found t u v (is_pair_lem c.before.before.before) (place_in w a.r) (length_in w u) (length_in w v) 0 c.found.result refl refl refl
+    (join_one w h.size h.cuts (place_in w a.r) (length_in w u) (length_in w v) t.counting.tried (known c.before.before.before).inside (turn_known t).long h.short)
+    (omega (arith, c.found.ensures.0)) (omega (arith, c.found.ensures.1))
+
+pub rule_in-rule-requires : goal.rule_in-rule-requires
+rule_in-rule-requires c = turn_known c.requires.turn

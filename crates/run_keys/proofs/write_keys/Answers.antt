@@ -1,0 +1,36 @@
+-- `write_keys` stores the key of the run at each position. The invariant: the keys of the positions passed stand at the front of the slice.
+use mathlib.Core.Path.{◌≡◌, refl, ◌∙◌, ap}
+use Prim.Native.Nat.{ℕ, ◌+◌, ◌-◌, ◌≤◌}
+use native.Mathlib.Omega.{arith}
+use lib.ListN.{length, take, drop, length-set, length-take, length-drop}
+use Rattle.definitions.specs.Words.{placed}
+use Rattle.definitions.specs.Services.{sample_order}
+use Rattle.run_keys.specs.Keys.{key_of}
+use Rattle.run_keys.proofs.Writing.{keys_to, keys_none, keys_more, keys_all}
+use Rattle.run_keys.proofs.write_keys.Goals as goal
+
+pub loop-i-init : goal.loop-i-init
+loop-i-init c =
+    let a = c.args in
+    (omega arith, refl, keys_none a.q a.text.now a.keys.now)
+
+pub key_of-requires : goal.key_of-requires
+key_of-requires c = simp (length-take, length-drop) (omega arith)
+
+pub loop-i-preserved : goal.loop-i-preserved
+loop-i-preserved c =
+    let a = c.args in
+    let i = c.loop-i.i in
+    let size : i + a.q - i ≡ a.q = omega arith in (
+      omega arith,
+      length-set c.loop-i.keys i c.key_of.result ∙ c.loop-i.invariant.1,
+      keys_more a.q a.text.now a.keys.now c.loop-i.keys i c.key_of.result (omega arith) (c.key_of.ensures ∙ ap (λ (n : ℕ). key_of sample_order (take n (drop i a.text.now))) size) c.loop-i.invariant.2,
+    )
+
+pub returns : goal.returns
+returns c =
+    let a = c.args in
+    keys_all a.q a.text.now a.keys.now c.loop-i.keys c.loop-i.i (omega arith) c.loop-i.invariant.2
+
+pub shape_of-keys : goal.shape_of-keys
+shape_of-keys c = c.loop-i.invariant.1
