@@ -4,13 +4,14 @@ use Rattle.lists.specs.Bools.{cond_true, cond_false}
 use Rattle.bad_words.proofs.Words.{bad_of, left_bad, other_bad, symbol_bad}
 use Rattle.bad_words.proofs.bad_of.Lts as lts
 use Rattle.bad_words.proofs.bad_of.Reads as reads
+use Rattle.bad_words.proofs.bad_of.Tie as tie
 use Rattle.bad_words.proofs.bad_of.Goals as goal
 
 abbrev After-is_half-then-is_half : Type 0
-After-is_half-then-is_half = lts.After-is_half2 reads.Pre reads.Post
+After-is_half-then-is_half = lts.After-is_half2 tie.the-claims reads.Pre reads.Post
 
 abbrev After-is_beside_symbol : Type 0
-After-is_beside_symbol = lts.After-is_beside_symbol reads.Pre reads.Post
+After-is_beside_symbol = lts.After-is_beside_symbol tie.the-claims reads.Pre reads.Post
 
 -- behind a left half, and behind a symbol
 left : (c : After-is_half-then-is_half) → let a = c.args in ◌≡◌ {A = ℕ} (bad_of a.r a.x a.y) (cond c.is_half-then-is_half.result 0 2)

@@ -13,13 +13,14 @@ use Rattle.census.specs.Accepted.{accepted}
 use Rattle.census.proofs.Answering.{window_fits, window_refused, table_refused, census_served}
 use Rattle.census.proofs.census.Lts as lts
 use Rattle.census.proofs.census.Reads as reads
+use Rattle.census.proofs.census.Tie as tie
 use Rattle.census.proofs.census.Goals as goal
 
 abbrev In-Done : Type 0
-In-Done = lts.After-enum_told reads.Pre reads.Post
+In-Done = lts.After-enum_told tie.the-claims reads.Pre reads.Post
 
 abbrev In-Done-b : Type 0
-In-Done-b = lts.After-known_told reads.Pre reads.Post
+In-Done-b = lts.After-known_told tie.the-claims reads.Pre reads.Post
 
 pub returns-in_default : goal.returns-in_default
 returns-in_default c =
@@ -66,7 +67,7 @@ deliver-requires c =
     let f = fit c.before.before.before.before.before.before.before.before.before.before.before.before.before in
     (f.1, f.2, omega (arith, ap length (handed c.before.before.before.before), short c.before.before.before.before, (read c.before.before.before.before).1))
 
-pub returns : goal.returns
-returns c =
+pub returns-in_default : goal.returns
+returns-in_default c =
     let a = c.args in
     census_served sample_order a.table.now a.work.now a.runs.now a.counts.now a.q (fit c.before.before.before.before.before.before.before.before.before.before.before.before.before.before.before.before.before.before).0 (read c.before.before.before.before.before.before.before.before.before).0 (read c.before.before.before.before.before.before.before.before.before).2 (handed c.before.before.before.before.before.before.before.before.before) c.deliver.ensures

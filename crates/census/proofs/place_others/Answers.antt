@@ -12,10 +12,11 @@ use Rattle.census.specs.Samples.{SoFar, number_below, put_all, number_more, numb
 use Rattle.census.specs.Accepted.{accepted}
 use Rattle.census.proofs.place_others.Lts as lts
 use Rattle.census.proofs.place_others.Reads as reads
+use Rattle.census.proofs.place_others.Tie as tie
 use Rattle.census.proofs.place_others.Goals as goal
 
 abbrev After-amount_of-n : Type 0
-After-amount_of-n = lts.After-amount_of reads.Pre reads.Post goal.the-invariant-loop-sample goal.the-decreases-loop-sample
+After-amount_of-n = lts.After-amount_of tie.the-claims reads.Pre reads.Post goal.the-invariant-loop-sample goal.the-decreases-loop-sample
 
 pub loop-sample-init : goal.loop-sample-init
 loop-sample-init c = (omega arith, refl, refl, omega arith, c.requires.first)

@@ -16,13 +16,14 @@ use Rattle.census.specs.Accepted.{accepted}
 use Rattle.census.proofs.Locating.{located}
 use Rattle.census.proofs.place_sample.Lts as lts
 use Rattle.census.proofs.place_sample.Reads as reads
+use Rattle.census.proofs.place_sample.Tie as tie
 use Rattle.census.proofs.place_sample.Goals as goal
 
 abbrev After-locate-found : Type 0
-After-locate-found = lts.After-locate reads.Pre reads.Post
+After-locate-found = lts.After-locate tie.the-claims reads.Pre reads.Post
 
 abbrev In-Done : Type 0
-In-Done = lts.After-known_told reads.Pre reads.Post
+In-Done = lts.After-known_told tie.the-claims reads.Pre reads.Post
 
 abbrev zeros : List ℕ
 zeros = replicate 2047 0
@@ -61,7 +62,7 @@ put_at-requires c =
     subst (λ (p : List ℕ). Places p c.args.drive.now) (sym (front c.before.before.before))
     (λ i m. omega (arith, c.requires, (occurs_below c.args.sample text i m).0, (accepted sample_order c.args.table.now (length c.args.work.now) (found c.before.before.before).0).0))
 
-pub returns : goal.returns
-returns c =
+pub returns-in_default : goal.returns
+returns-in_default c =
     let a = c.args in
     done_tried (found c.before.before.before.before.before.before).0 (found c.before.before.before.before.before.before).1 (found c.before.before.before.before.before.before).2 (c.put_at.ensures ∙ ap (λ (x : List ℕ). put_all x a.sample a.drive.now) (front c.before.before.before.before.before.before)) refl

@@ -10,10 +10,11 @@ use Rattle.census.specs.Accepted.{accepted}
 use Rattle.census.proofs.Locating.{begun, all_read}
 use Rattle.census.proofs.read_samples.Lts as lts
 use Rattle.census.proofs.read_samples.Reads as reads
+use Rattle.census.proofs.read_samples.Tie as tie
 use Rattle.census.proofs.read_samples.Goals as goal
 
 abbrev In-Done : Type 0
-In-Done = lts.After-known_told reads.Pre reads.Post
+In-Done = lts.After-known_told tie.the-claims reads.Pre reads.Post
 
 pub returns-in_default : goal.returns-in_default
 returns-in_default c = tried_refused c.place_sample-a.ensures c.in_default.is
@@ -33,8 +34,8 @@ overflow_add-result c =
     let accepts = (tried_done c.place_sample-a.ensures c.in-Done.is).0 in
     omega (arith, (first c.before.before.before.before.before.before.before.before).1, c.place_others-m.ensures.result_value, (accepted sample_order c.args.table.now (length c.args.work.now) accepts).0)
 
-pub returns : goal.returns
-returns c =
+pub returns-in_default : goal.returns
+returns-in_default c =
     let e = c.place_others-m.ensures in
     all_read sample_order c.args.table.now c.args.work.now c.place_sample-a.new.work c.args.drive.now c.place_sample-a.new.drive c.requires c.place_sample-a.auto.1.1.0 c.place_sample-a.auto.1.1.1.0
     c.place_others-m.result c.place_sample-a.ensures c.in-Done.is e.0 e.1.0 e.1.1

@@ -11,10 +11,11 @@ use Rattle.census_output.proofs.Stepping.{drive_bytes}
 use Rattle.census_output.proofs.Printing.{Listed, census_refused, census_done}
 use Rattle.census_output.proofs.answer_built.Lts as lts
 use Rattle.census_output.proofs.answer_built.Reads as reads
+use Rattle.census_output.proofs.answer_built.Tie as tie
 use Rattle.census_output.proofs.answer_built.Goals as goal
 
 abbrev After-window-q : Type 0
-After-window-q = lts.After-window reads.Pre reads.Post
+After-window-q = lts.After-window tie.the-claims reads.Pre reads.Post
 
 pub returns-in_default : goal.returns-in_default
 returns-in_default c =
@@ -40,7 +41,7 @@ pub put_report-requires : goal.put_report-requires
 put_report-requires c =
     ((listed c.before.before.before.before).tallied, omega (arith, (listed c.before.before.before.before).out_fits, c.requires.1))
 
-pub returns : goal.returns
-returns c =
+pub returns-in_default : goal.returns
+returns-in_default c =
     let e = (listed c.before.before.before.before.before.before.before).output in
     (c.put_report.ensures.value ∙ ap length e, c.put_report.ensures.out_after ∙ ap (λ (x : List ℕ). placed x c.args.out.now) e)

@@ -8,10 +8,11 @@ use Rattle.decimals.proofs.Digits.{line_most}
 use Rattle.census_output.proofs.Tallying.{tallies_most, report_stored}
 use Rattle.census_output.proofs.put_report.Lts as lts
 use Rattle.census_output.proofs.put_report.Reads as reads
+use Rattle.census_output.proofs.put_report.Tie as tie
 use Rattle.census_output.proofs.put_report.Goals as goal
 
 abbrev After-put_tallies-n : Type 0
-After-put_tallies-n = lts.After-put_tallies reads.Pre reads.Post
+After-put_tallies-n = lts.After-put_tallies tie.the-claims reads.Pre reads.Post
 
 -- behind the lines of the runs there is room for a number
 room : (p : After-put_tallies-n) → p.put_tallies-n.result + 11 ≤ length p.args.out.now

@@ -14,10 +14,11 @@ use Rattle.census_output.specs.Reports.{tally, tallies}
 use Rattle.census_output.proofs.Tallying.{tally_within, tally_run, tally_most}
 use Rattle.census_output.proofs.put_tallies.Lts as lts
 use Rattle.census_output.proofs.put_tallies.Reads as reads
+use Rattle.census_output.proofs.put_tallies.Tie as tie
 use Rattle.census_output.proofs.put_tallies.Goals as goal
 
 abbrev After-wide : Type 0
-After-wide = lts.After-wide reads.Pre reads.Post goal.the-invariant-loop-i goal.the-decreases-loop-i
+After-wide = lts.After-wide tie.the-claims reads.Pre reads.Post goal.the-invariant-loop-i goal.the-decreases-loop-i
 
 pub loop-i-init : goal.loop-i-init
 loop-i-init c =

@@ -8,10 +8,11 @@ use Rattle.definitions.specs.Census.{total}
 use Rattle.census_output.proofs.Tallying.{total_none, total_more}
 use Rattle.census_output.proofs.sum.Lts as lts
 use Rattle.census_output.proofs.sum.Reads as reads
+use Rattle.census_output.proofs.sum.Tie as tie
 use Rattle.census_output.proofs.sum.Goals as goal
 
 abbrev After-wide-s : Type 0
-After-wide-s = lts.After-wide reads.Pre reads.Post goal.the-invariant-loop-i goal.the-decreases-loop-i
+After-wide-s = lts.After-wide tie.the-claims reads.Pre reads.Post goal.the-invariant-loop-i goal.the-decreases-loop-i
 
 pub loop-i-init : goal.loop-i-init
 loop-i-init c = let counts = c.args.counts.now in (omega arith, omega arith, total_none counts (length counts) refl)

@@ -4,10 +4,11 @@ use native.Mathlib.Omega.{arith}
 use lib.ListN.{length}
 use Rattle.census_trials.proofs.sum.Lts as lts
 use Rattle.census_trials.proofs.sum.Reads as reads
+use Rattle.census_trials.proofs.sum.Tie as tie
 use Rattle.census_trials.proofs.sum.Goals as goal
 
 abbrev After-wide-s : Type 0
-After-wide-s = lts.After-wide reads.Pre reads.Post goal.the-invariant-loop-i goal.the-decreases-loop-i
+After-wide-s = lts.After-wide tie.the-claims reads.Pre reads.Post goal.the-invariant-loop-i goal.the-decreases-loop-i
 
 -- the count that is added is a word
 word : (w : After-wide-s) → w.wide-s.result < 4294967296

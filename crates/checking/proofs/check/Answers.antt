@@ -9,10 +9,11 @@ use Rattle.lists.specs.Serving.{answer_refuses, served}
 use Rattle.opening.proofs.Services.{opening_refused, Succeeded, opening_done, opening_served}
 use Rattle.checking.proofs.check.Lts as lts
 use Rattle.checking.proofs.check.Reads as reads
+use Rattle.checking.proofs.check.Tie as tie
 use Rattle.checking.proofs.check.Goals as goal
 
 abbrev In-Done : Type 0
-In-Done = lts.After-enum_told reads.Pre reads.Post
+In-Done = lts.After-enum_told tie.the-claims reads.Pre reads.Post
 
 pub returns-in_default : goal.returns-in_default
 unfolding check_service table_checks
@@ -27,7 +28,7 @@ succeeded k = opening_done k.admit-a.ensures k.enum_told-1.given.1
 pub clear_front-requires : goal.clear_front-requires
 clear_front-requires c = (succeeded c.before.before).loads.long
 
-pub returns : goal.returns
+pub returns-in_default : goal.returns
 unfolding check_service outcome_of table_checks
-returns c =
+returns-in_default c =
     opening_served (succeeded c.before.before.before.before.before.before) refl c.clear_front.ensures (served none (ap (λ (n : ℕ). done n 0) c.rule_count.ensures) refl)

@@ -12,13 +12,14 @@ use Rattle.lists.specs.Serving.{answer_refuses, refused_by, served}
 use Rattle.opening.proofs.Services.{ready, opening_refused, Succeeded, opening_done, opened_ready, opening_served}
 use Rattle.checking.proofs.check_profile.Lts as lts
 use Rattle.checking.proofs.check_profile.Reads as reads
+use Rattle.checking.proofs.check_profile.Tie as tie
 use Rattle.checking.proofs.check_profile.Goals as goal
 
 abbrev In-Done-2 : Type 0
-In-Done-2 = lts.After-opened reads.Pre reads.Post
+In-Done-2 = lts.After-opened tie.the-claims reads.Pre reads.Post
 
 abbrev After-profile_loaded-p : Type 0
-After-profile_loaded-p = lts.After-profile_loaded reads.Pre reads.Post
+After-profile_loaded-p = lts.After-profile_loaded tie.the-claims reads.Pre reads.Post
 
 pub returns-in_default : goal.returns-in_default
 unfolding check_profile_service
@@ -51,8 +52,8 @@ returns-in_default-p c =
     let (d, first, g) = refused_some _ _ (judged c.before.before.before.before.before.before.before) c.in_default-p.is in
     opening_served (succeeded c.before.before.before.before.before.before.before.before.before.before) (refl, (refl, refl)) c.clear_front.ensures (refused_by d first (ap outcome_of g) refl)
 
-pub returns : goal.returns
+pub returns-in_default : goal.returns
 unfolding check_profile_service profile_checks outcome_of
-returns c =
+returns-in_default c =
     let all = (done_all _ _ (judged c.before.before.before.before.before.before.before.before) c.in-Done-p.is).0 in
     opening_served (succeeded c.before.before.before.before.before.before.before.before.before.before.before) (refl, (refl, refl)) c.clear_front.ensures (served all (ap (λ (n : ℕ). done n 0) c.rule_count.ensures) refl)

@@ -7,10 +7,11 @@ use lib.ListN.{length}
 use borrow.Author.Rules.{rules}
 use Rattle.compare.proofs.smaller.Lts as lts
 use Rattle.compare.proofs.smaller.Reads as reads
+use Rattle.compare.proofs.smaller.Tie as tie
 use Rattle.compare.proofs.smaller.Goals as goal
 
 abbrev After-row_known-1 : Type 0
-After-row_known-1 = lts.After-row_known reads.Pre reads.Post
+After-row_known-1 = lts.After-row_known tie.the-claims reads.Pre reads.Post
 
 pub smaller_from-requires : goal.smaller_from-requires
 smaller_from-requires c =

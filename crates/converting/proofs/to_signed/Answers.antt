@@ -7,10 +7,11 @@ use Rattle.lists.specs.Serving.{answer_refuses}
 use Rattle.opening.proofs.Services.{ready, opening_refused, Succeeded, opening_done, opened_ready, opening_lent}
 use Rattle.converting.proofs.to_signed.Lts as lts
 use Rattle.converting.proofs.to_signed.Reads as reads
+use Rattle.converting.proofs.to_signed.Tie as tie
 use Rattle.converting.proofs.to_signed.Goals as goal
 
 abbrev In-Done-2 : Type 0
-In-Done-2 = lts.After-a reads.Pre reads.Post
+In-Done-2 = lts.After-a tie.the-claims reads.Pre reads.Post
 
 pub returns-in_default : goal.returns-in_default
 unfolding convert_order_service
@@ -31,8 +32,8 @@ reorder_loaded-b-requires c = opened_ready (succeeded c.before.before.before.bef
 pub clear_front-requires : goal.clear_front-requires
 clear_front-requires c = omega (arith, (succeeded c.before.before.before.before.before.before.before.before.before.before).loads.long)
 
-pub returns : goal.returns
+pub returns-in_default : goal.returns
 unfolding convert_order_service ready
-returns c =
+returns-in_default c =
     let x = succeeded c.before.before.before.before.before.before.before.before.before.before.before.before.before in
     opening_lent x (refl, refl) c.reorder_loaded-b.new.work c.reorder_loaded-b.auto.1.1.0 c.clear_front.ensures (c.reorder_loaded-b.ensures (ready x.loads) refl x.rules)

@@ -7,10 +7,11 @@ use Rattle.lyndon.specs.Ruled.{SymbolOf}
 use Rattle.decoding.proofs.Rules.{symbol_read, pair_read}
 use Rattle.decoding.proofs.chair_of.Lts as lts
 use Rattle.decoding.proofs.chair_of.Reads as reads
+use Rattle.decoding.proofs.chair_of.Tie as tie
 use Rattle.decoding.proofs.chair_of.Goals as goal
 
 abbrev In-Symbol-2 : Type 0
-In-Symbol-2 = lts.After-rule reads.Pre reads.Post
+In-Symbol-2 = lts.After-rule tie.the-claims reads.Pre reads.Post
 
 -- rule 0 is read as a symbol
 symbol : (c : In-Symbol-2) → SymbolOf c.args.table.now 0 c.rule-1.given.0.0 c.rule-1.given.0.1.0
@@ -23,8 +24,7 @@ returns-in-Symbol c = (symbol c.before.before).beside
 
 pub returns-in-Pair : goal.returns-in-Pair
 returns-in-Pair c =
-    let (q, e) = c.enum_told-1.given in
-    absurd (omega (arith, (pair_read c.args.table.now 0 c.requires (omega (arith, c.requires.even, c.requires.filled)) q.0 q.1.0 (sym c.rule_of-rule.ensures ∙ e)).left))
+    absurd (omega (arith, (pair_read c.args.table.now 0 c.requires (omega (arith, c.requires.even, c.requires.filled)) c.in-Pair.field-0 c.in-Pair.field-1 (sym c.rule_of-rule.ensures ∙ c.in-Pair.is)).left))
 
 pub rule_of-rule-requires : goal.rule_of-rule-requires
 rule_of-rule-requires c = omega (arith, c.requires.even, c.requires.filled)

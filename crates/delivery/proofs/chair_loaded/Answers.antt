@@ -13,10 +13,11 @@ use Rattle.layout.specs.Layout.{TABLE}
 use Rattle.state.specs.State.{Ready, rules_loaded}
 use Rattle.delivery.proofs.chair_loaded.Lts as lts
 use Rattle.delivery.proofs.chair_loaded.Reads as reads
+use Rattle.delivery.proofs.chair_loaded.Tie as tie
 use Rattle.delivery.proofs.chair_loaded.Goals as goal
 
 abbrev Start : Type 0
-Start = lts.Start reads.Pre reads.Post
+Start = lts.Start tie.the-claims reads.Pre reads.Post
 
 -- the rules in the table area are the table
 loaded_table : (w : List ℕ) (h : Ready w) (n : ℕ) → n ≡ rules_loaded h → take (TABLE + 2 * n - TABLE) (drop TABLE w) ≡ table_of h.order h.text h.chair

@@ -11,10 +11,11 @@ use Rattle.lines.proofs.Lines.{line_at, lines_turns}
 use Rattle.desk_output.proofs.Names.{name_most}
 use Rattle.desk_output.proofs.put_headings.Lts as lts
 use Rattle.desk_output.proofs.put_headings.Reads as reads
+use Rattle.desk_output.proofs.put_headings.Tie as tie
 use Rattle.desk_output.proofs.put_headings.Goals as goal
 
 abbrev After-shared_slice_known-in-loop-i-1 : Type 0
-After-shared_slice_known-in-loop-i-1 = lts.After-shared_slice_known2 reads.Pre reads.Post goal.the-invariant-loop-i goal.the-decreases-loop-i
+After-shared_slice_known-in-loop-i-1 = lts.After-shared_slice_known2 tie.the-claims reads.Pre reads.Post goal.the-invariant-loop-i goal.the-decreases-loop-i
 
 pub loop-i-init : goal.loop-i-init
 loop-i-init c =

@@ -47,13 +47,13 @@ loop-r-preserved c =
     let other : has_words a.rules.now a.x a.y (c.loop-r.r - 1) ≡ false = ⊎_elim
     (λ w. second_differs a.rules.now a.x a.y c.loop-r.r (omega arith) w.2.left)
     (λ w. first_differs a.rules.now a.x a.y c.loop-r.r (omega arith) w.left) c.if-rules-k.branch in
-    let less = loop-less c in (
+    let less = loop-r-smaller c in (
       omega arith,
       omega arith,
       λ n d. (walk_next a.rules.now a.links.now n a.x a.y c.loop-r.r c.wide-r-in-loop-r.result d (c.loop-r.invariant.2 n d) (omega arith) other c.wide-r-in-loop-r.ensures).0,
     )
 
-pub returns : goal.returns
-returns c n d =
+pub returns-then-rules-k-2 : goal.returns
+returns-then-rules-k-2 c n d =
     let a = c.args in
     walk_ended a.rules.now n a.x a.y c.loop-r.r (c.loop-r.invariant.2 n d) (omega arith)

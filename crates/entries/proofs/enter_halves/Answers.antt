@@ -13,13 +13,14 @@ use Rattle.entries.specs.Entries.{entered}
 use Rattle.entries.proofs.Steps.{entry_low, symbol_judged, pair_room, after_room, pair_judged}
 use Rattle.entries.proofs.enter_halves.Lts as lts
 use Rattle.entries.proofs.enter_halves.Reads as reads
+use Rattle.entries.proofs.enter_halves.Tie as tie
 use Rattle.entries.proofs.enter_halves.Goals as goal
 
 abbrev In-Pair-2 : Type 0
-In-Pair-2 = lts.After-rule reads.Pre reads.Post
+In-Pair-2 = lts.After-rule tie.the-claims reads.Pre reads.Post
 
 abbrev After-enter-d : Type 0
-After-enter-d = lts.After-enter reads.Pre reads.Post
+After-enter-d = lts.After-enter tie.the-claims reads.Pre reads.Post
 
 pub rule_of-rule-requires : goal.rule_of-rule-requires
 rule_of-rule-requires c = omega (arith, c.requires.1, c.requires.0.sized.lent.shaped.even)
@@ -29,9 +30,8 @@ bounds-work-r c = let few = rules_few c.requires.0.sized.lent in omega (arith, c
 
 pub returns-in-Symbol : goal.returns-in-Symbol
 returns-in-Symbol c =
-    let (q, f) = c.enum_told-1.given in
-    let p = symbol_read c.args.table.now c.args.r c.requires.0.sized.lent.shaped c.requires.1 q.0 q.1.0 (sym c.rule_of-rule.ensures ∙ f) in
-    let (met-so, met-not) = symbol_judged c.requires.0 c.requires.1 q.0 q.1.0 p in
+    let p = symbol_read c.args.table.now c.args.r c.requires.0.sized.lent.shaped c.requires.1 c.in-Symbol.field-0 c.in-Symbol.field-1 (sym c.rule_of-rule.ensures ∙ c.in-Symbol.is) in
+    let (met-so, met-not) = symbol_judged c.requires.0 c.requires.1 c.in-Symbol.field-0 c.in-Symbol.field-1 p in
     let same : eqb (entry_in c.args.work.now c.args.r) c.args.r ≡ eqb c.wide-e.result c.args.r = ap (λ (n : ℕ). eqb n c.args.r) (sym c.wide-e.ensures) in
     (λ t. met-so (same ∙ t), λ t. met-not (same ∙ t))
 
@@ -61,8 +61,8 @@ met c =
     let place = place_in c.args.work.now c.args.r in
     (c.enter-d.ensures.0 ∙ ap (λ (n : ℕ). after n u) c.wide-e.ensures, c.enter-d.ensures.1 ∙ ap (λ (n : ℕ). entered c.args.work.now n u place) c.wide-e.ensures)
 
-pub enter-requires : goal.enter-requires
-enter-requires c =
+pub enter-d-requires : goal.enter-requires
+enter-d-requires c =
     let low = after_room c.requires.0 c.requires.1 c.in-Pair.left c.in-Pair.right (is_pair_lem c.before.before.before.before.before.before.before.before.before) in
     (omega (arith, room c.before.before.before.before.before.before.before.before.before), omega (arith, room c.before.before.before.before.before.before.before.before.before, (met c.before.before.before.before).0, low.0), omega (arith, c.enter-d.auto.0, c.requires.0.sized.lent.long))
 

@@ -9,10 +9,11 @@ use Rattle.expansion.specs.Expansion.{Expanding, Stepped}
 use Rattle.expansion.proofs.Walking.{walk_start, walk_long}
 use Rattle.expansion.proofs.expand.Lts as lts
 use Rattle.expansion.proofs.expand.Reads as reads
+use Rattle.expansion.proofs.expand.Tie as tie
 use Rattle.expansion.proofs.expand.Goals as goal
 
 abbrev In-Next-2 : Type 0
-In-Next-2 = lts.After-t reads.Pre reads.Post goal.the-invariant-loop-p goal.the-decreases-loop-p
+In-Next-2 = lts.After-t tie.the-claims reads.Pre reads.Post goal.the-invariant-loop-p goal.the-decreases-loop-p
 
 pub loop-p-init : goal.loop-p-init
 loop-p-init c =
@@ -50,8 +51,8 @@ returns-in-Whole c =
     let a = c.args in
     subst (Stepped a.order a.table.now c.expand_rule-t.new.work c.loop-p.p.written c.loop-p.p.pending) c.in-Whole.is c.expand_rule-t.ensures
 
-pub returns : goal.returns
-returns c =
+pub returns-in-Whole : goal.returns
+returns-in-Whole c =
     let a = c.args in
     walk_long a.order a.table.now c.loop-p.work c.loop-p.p.rule c.loop-p.p.written c.loop-p.p.pending c.requires.0 (omega (arith, c.requires.2, c.loop-p.invariant.0)) (omega (arith, c.loop-p.invariant.1, c.loop-p-test.false)) c.loop-p.invariant.2
 

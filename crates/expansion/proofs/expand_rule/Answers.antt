@@ -7,13 +7,14 @@ use Rattle.decoding.specs.Decoding.{rule_at}
 use Rattle.expansion.proofs.Walking.{symbol_here, pair_here, symbol_last, symbol_next, pair_stepped}
 use Rattle.expansion.proofs.expand_rule.Lts as lts
 use Rattle.expansion.proofs.expand_rule.Reads as reads
+use Rattle.expansion.proofs.expand_rule.Tie as tie
 use Rattle.expansion.proofs.expand_rule.Goals as goal
 
 abbrev In-Symbol-2 : Type 0
-In-Symbol-2 = lts.After-rule reads.Pre reads.Post
+In-Symbol-2 = lts.After-rule tie.the-claims reads.Pre reads.Post
 
 abbrev In-Pair-2 : Type 0
-In-Pair-2 = lts.After-rule2 reads.Pre reads.Post
+In-Pair-2 = lts.After-rule2 tie.the-claims reads.Pre reads.Post
 
 is_symbol : (c : In-Symbol-2) → let a = c.args in rule_at a.table.now a.p.rule ≡ Symbol c.rule-1.given.0.0 c.rule-1.given.0.1.0
 is_symbol c = sym c.rule_of-rule.ensures ∙ c.rule-1.given.1

@@ -11,13 +11,14 @@ use Rattle.lengths.proofs.Sizes.{rules_few}
 use Rattle.filling.proofs.Rules.{place_room, sample_number, symbol_written, left_room, left_copyable, right_copyable, pair_written, pair_judged}
 use Rattle.filling.proofs.fill_rule.Lts as lts
 use Rattle.filling.proofs.fill_rule.Reads as reads
+use Rattle.filling.proofs.fill_rule.Tie as tie
 use Rattle.filling.proofs.fill_rule.Goals as goal
 
 abbrev In-Symbol-2 : Type 0
-In-Symbol-2 = lts.After-rule reads.Pre reads.Post
+In-Symbol-2 = lts.After-rule tie.the-claims reads.Pre reads.Post
 
 abbrev In-Pair-2 : Type 0
-In-Pair-2 = lts.After-rule2 reads.Pre reads.Post
+In-Pair-2 = lts.After-rule2 tie.the-claims reads.Pre reads.Post
 
 pub rule_of-rule-requires : goal.rule_of-rule-requires
 rule_of-rule-requires c = omega (arith, c.requires.1, c.requires.0.placed.sized.lent.shaped.even)

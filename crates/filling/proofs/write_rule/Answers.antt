@@ -10,10 +10,11 @@ use Rattle.filling.specs.Filling.{copied}
 use Rattle.filling.proofs.Copies.{copied_same, copied_one, copied_first}
 use Rattle.filling.proofs.write_rule.Lts as lts
 use Rattle.filling.proofs.write_rule.Reads as reads
+use Rattle.filling.proofs.write_rule.Tie as tie
 use Rattle.filling.proofs.write_rule.Goals as goal
 
 abbrev After-put : Type 0
-After-put = lts.After-put reads.Pre reads.Post
+After-put = lts.After-put tie.the-claims reads.Pre reads.Post
 
 pub returns-then-from-to : goal.returns-then-from-to
 returns-then-from-to c =
@@ -36,8 +37,8 @@ returns-then-n-eq1 c =
     let one : 1 ≡ length_in a.work.now a.q = sym c.if-n-eq1.true ∙ c.wide-n.ensures in
     first_copied c.before.before.before.before ∙ copied_one a.work.now from a.to ∙ ap (copied a.work.now from a.to) one
 
-pub returns : goal.returns
-returns c =
+pub returns-then-from-to : goal.returns
+returns-then-from-to c =
     let a = c.args in
     let from = place_in a.work.now a.q in
     let size : suc (c.wide-n.result - 1) ≡ length_in a.work.now a.q = omega (arith, c.wide-n.ensures, c.requires.filled) in

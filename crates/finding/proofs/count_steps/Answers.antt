@@ -11,13 +11,14 @@ use Rattle.lyndon.specs.Steps.{two_samples, steps_size}
 use Rattle.finding.proofs.Counting.{loaded_starts, loaded_count, steps_behind}
 use Rattle.finding.proofs.count_steps.Lts as lts
 use Rattle.finding.proofs.count_steps.Reads as reads
+use Rattle.finding.proofs.count_steps.Tie as tie
 use Rattle.finding.proofs.count_steps.Goals as goal
 
 abbrev Start : Type 0
-Start = lts.Start reads.Pre reads.Post
+Start = lts.Start tie.the-claims reads.Pre reads.Post
 
 abbrev After-rearrange : Type 0
-After-rearrange = lts.After-rearrange reads.Pre reads.Post
+After-rearrange = lts.After-rearrange tie.the-claims reads.Pre reads.Post
 
 -- the pattern has a step
 long : (s : Start) → 2 ≤ length s.args.pattern.now

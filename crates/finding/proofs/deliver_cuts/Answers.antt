@@ -13,13 +13,14 @@ use Rattle.cuts.proofs.Lists.{most_cuts, eleven}
 use Rattle.results.proofs.Writing.{list_refused, list_fits, list_written}
 use Rattle.finding.proofs.deliver_cuts.Lts as lts
 use Rattle.finding.proofs.deliver_cuts.Reads as reads
+use Rattle.finding.proofs.deliver_cuts.Tie as tie
 use Rattle.finding.proofs.deliver_cuts.Goals as goal
 
 abbrev After-floor_log2-k : Type 0
-After-floor_log2-k = lts.After-floor_log2 reads.Pre reads.Post
+After-floor_log2-k = lts.After-floor_log2 tie.the-claims reads.Pre reads.Post
 
 abbrev After-list-n : Type 0
-After-list-n = lts.After-list2 reads.Pre reads.Post
+After-list-n = lts.After-list2 tie.the-claims reads.Pre reads.Post
 
 -- the list has at most 11 words, and the cuts fit
 few : (c : After-floor_log2-k) → c.floor_log2-k.result + 1 ≤ 11
@@ -70,8 +71,8 @@ copy-requires c =
     subst (λ (x : List ℕ). length x ≤ length a.result.now) (sym (copied c.before.before.before.before.before.before.before))
     (list_fits (pattern_cuts sample_order a.pattern.now) a.result.now c.list-n.result c.list-n.ensures.0 c.result_fits-a.result c.result_fits-a.ensures c.in-Done.is)
 
-pub returns : goal.returns
-returns c =
+pub returns-in_default : goal.returns
+returns-in_default c =
     let a = c.args in
     list_written (pattern_cuts sample_order a.pattern.now) a.result.now c.list-n.result c.list-n.ensures.0 c.result_fits-a.result c.result_fits-a.ensures c.copy.new.to c.in-Done.is
     (c.copy.ensures ∙ ap (λ (x : List ℕ). placed x a.result.now) (copied c.before.before.before.before.before.before.before.before.before.before))

@@ -16,13 +16,14 @@ use Rattle.halves.specs.Halves.{front, Written}
 use Rattle.halves.proofs.Orders.{order_room, middle_room, halves_test, right_test, not_less, left_symbol, left_pair, left_same}
 use Rattle.halves.proofs.in_order.Lts as lts
 use Rattle.halves.proofs.in_order.Reads as reads
+use Rattle.halves.proofs.in_order.Tie as tie
 use Rattle.halves.proofs.in_order.Goals as goal
 
 abbrev After-rule_of-rule : Type 0
-After-rule_of-rule = lts.After-rule_of reads.Pre reads.Post
+After-rule_of-rule = lts.After-rule_of tie.the-claims reads.Pre reads.Post
 
 abbrev In-Pair-2 : Type 0
-In-Pair-2 = lts.After-rule reads.Pre reads.Post
+In-Pair-2 = lts.After-rule tie.the-claims reads.Pre reads.Post
 
 pub is_smaller-requires : goal.is_smaller-requires
 is_smaller-requires c =
@@ -76,8 +77,7 @@ is_not_smaller-requires c =
 
 pub returns-in-Symbol : goal.returns-in-Symbol
 returns-in-Symbol c =
-    let (q, f) = c.enum_told-1.given in
-    λ k. left_symbol k (is_less c.before.before.before k) q.0 q.1.0 (symbol_read c.args.table.now c.args.left c.requires.placed.sized.lent.shaped (left_low c.requires) q.0 q.1.0 (sym c.rule_of-rule.ensures ∙ f))
+    λ k. left_symbol k (is_less c.before.before.before k) c.in-Symbol.field-0 c.in-Symbol.field-1 (symbol_read c.args.table.now c.args.left c.requires.placed.sized.lent.shaped (left_low c.requires) c.in-Symbol.field-0 c.in-Symbol.field-1 (sym c.rule_of-rule.ensures ∙ c.in-Symbol.is))
 
 pub returns-else-second-right : goal.returns-else-second-right
 returns-else-second-right c =

@@ -39,8 +39,8 @@ loop-i-preserved c =
     let a = c.args in
     (refl, fit_more a.work.now a.m a.n c.requires.0 c.requires.2 a.right (longer c.before.before.before.before.before (omega (arith, c.if-longest-right.false))) c.loop-i.i c.loop-i.invariant.1 (omega (arith, c.loop-i-test.true, c.loop-i.invariant.0)))
 
-pub returns : goal.returns
-returns c =
+pub returns-then-longest-right : goal.returns
+returns-then-longest-right c =
     let a = c.args in
     fit_end a.work.now a.m a.n c.requires.0 c.requires.2 a.right (longer c.before.before.before.before.before (omega (arith, c.if-longest-right.false))) c.loop-i.i c.loop-i.invariant.1 (omega (arith, c.loop-i-test.false, c.loop-i.invariant.0))
 

@@ -10,10 +10,11 @@ use Rattle.layout.specs.Layout.{CUTS}
 use Rattle.joins.proofs.Joining.{Sought, nowhere, missed_first, sought_more, sought_all, cut_range, cut_inside, fitting_start, fitting_more, fitting_all}
 use Rattle.joins.proofs.test_join.Lts as lts
 use Rattle.joins.proofs.test_join.Reads as reads
+use Rattle.joins.proofs.test_join.Tie as tie
 use Rattle.joins.proofs.test_join.Goals as goal
 
 abbrev In-loop-tested : Type 0
-In-loop-tested = lts.Then1 reads.Pre reads.Post goal.the-invariant-loop-tested goal.the-decreases-loop-tested
+In-loop-tested = lts.Then1 tie.the-claims reads.Pre reads.Post goal.the-invariant-loop-tested goal.the-decreases-loop-tested
 
 pub loop-tested-init : goal.loop-tested-init
 loop-tested-init c =

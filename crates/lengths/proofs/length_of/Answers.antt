@@ -9,18 +9,18 @@ use Rattle.decoding.proofs.Rules.{symbol_read, pair_read}
 use Rattle.lengths.proofs.Sizes.{rules_few, symbol_length, pair_length, pair_fits}
 use Rattle.lengths.proofs.length_of.Lts as lts
 use Rattle.lengths.proofs.length_of.Reads as reads
+use Rattle.lengths.proofs.length_of.Tie as tie
 use Rattle.lengths.proofs.length_of.Goals as goal
 
 abbrev In-Pair-2 : Type 0
-In-Pair-2 = lts.After-rule reads.Pre reads.Post
+In-Pair-2 = lts.After-rule tie.the-claims reads.Pre reads.Post
 
 pub rule_of-rule-requires : goal.rule_of-rule-requires
 rule_of-rule-requires c = omega (arith, c.requires.1, c.requires.0.lent.shaped.even)
 
 pub returns-in-Symbol : goal.returns-in-Symbol
 returns-in-Symbol c =
-    let (q, e) = c.enum_told-1.given in
-    symbol_length c.requires.0 q.0 q.1.0 (symbol_read c.args.table.now c.args.r c.requires.0.lent.shaped c.requires.1 q.0 q.1.0 (sym c.rule_of-rule.ensures ∙ e))
+    symbol_length c.requires.0 c.in-Symbol.field-0 c.in-Symbol.field-1 (symbol_read c.args.table.now c.args.r c.requires.0.lent.shaped c.requires.1 c.in-Symbol.field-0 c.in-Symbol.field-1 (sym c.rule_of-rule.ensures ∙ c.in-Symbol.is))
 
 is_pair_lem : (c : In-Pair-2) → let a = c.args in PairOf a.table.now a.r c.rule-1.given.0.0 c.rule-1.given.0.1.0
 is_pair_lem c =

@@ -11,10 +11,11 @@ use Rattle.lines.proofs.Turns.{turns_none, turns_room, turns_stored, turns_all}
 use Rattle.lines.proofs.Lines.{spaced_at, spaced_turns, byte_most}
 use Rattle.lines.proofs.put_spaced.Lts as lts
 use Rattle.lines.proofs.put_spaced.Reads as reads
+use Rattle.lines.proofs.put_spaced.Tie as tie
 use Rattle.lines.proofs.put_spaced.Goals as goal
 
 abbrev After-shared_slice_known-in-loop-i-1 : Type 0
-After-shared_slice_known-in-loop-i-1 = lts.After-shared_slice_known2 reads.Pre reads.Post goal.the-invariant-loop-i goal.the-decreases-loop-i
+After-shared_slice_known-in-loop-i-1 = lts.After-shared_slice_known2 tie.the-claims reads.Pre reads.Post goal.the-invariant-loop-i goal.the-decreases-loop-i
 
 pub loop-i-init : goal.loop-i-init
 loop-i-init c =

@@ -7,10 +7,11 @@ use Rattle.lists.specs.Serving.{answer_refuses}
 use Rattle.opening.proofs.Services.{ready, opening_refused, Succeeded, opening_done, opening_lent}
 use Rattle.lyndon_words.proofs.lyndon_array.Lts as lts
 use Rattle.lyndon_words.proofs.lyndon_array.Reads as reads
+use Rattle.lyndon_words.proofs.lyndon_array.Tie as tie
 use Rattle.lyndon_words.proofs.lyndon_array.Goals as goal
 
 abbrev In-Done-2 : Type 0
-In-Done-2 = lts.After-a reads.Pre reads.Post
+In-Done-2 = lts.After-a tie.the-claims reads.Pre reads.Post
 
 pub returns-in_default : goal.returns-in_default
 unfolding lyndon_array_service
@@ -31,8 +32,8 @@ array_loaded-written-requires c = let x = succeeded c.before.before.before.befor
 pub clear_front-requires : goal.clear_front-requires
 clear_front-requires c = omega (arith, (succeeded c.before.before.before.before.before.before.before.before.before.before).loads.long)
 
-pub returns : goal.returns
+pub returns-in_default : goal.returns
 unfolding lyndon_array_service ready
-returns c =
+returns-in_default c =
     let x = succeeded c.before.before.before.before.before.before.before.before.before.before.before.before.before in
     opening_lent x (refl, refl) c.array_loaded-written.new.work c.array_loaded-written.auto.1.0 c.clear_front.ensures (c.array_loaded-written.ensures (ready x.loads) x.rules)

@@ -11,16 +11,16 @@ use Rattle.state.proofs.Rules.{kept_symbol, kept_pair}
 use Rattle.places.proofs.Sizes.{pair_length}
 use Rattle.places.proofs.length_of.Lts as lts
 use Rattle.places.proofs.length_of.Reads as reads
+use Rattle.places.proofs.length_of.Tie as tie
 use Rattle.places.proofs.length_of.Goals as goal
 
 abbrev In-Pair-2 : Type 0
-In-Pair-2 = lts.After-rule reads.Pre reads.Post
+In-Pair-2 = lts.After-rule tie.the-claims reads.Pre reads.Post
 
 pub returns-in-Symbol : goal.returns-in-Symbol
 returns-in-Symbol c =
-    let (q, e) = c.enum_told-1.given in
     let a = c.args in
-    λ g h k. sym (ap length ((kept_symbol k.kept a.r h q.0 q.1.0 (sym c.rule_in-rule.ensures ∙ e)).string g.order))
+    λ g h k. sym (ap length ((kept_symbol k.kept a.r h c.in-Symbol.field-0 c.in-Symbol.field-1 (sym c.rule_in-rule.ensures ∙ c.in-Symbol.is)).string g.order))
 
 -- the rule is a pair of rules before it, and not too long
 pair_known : (c : In-Pair-2) → let a = c.args in

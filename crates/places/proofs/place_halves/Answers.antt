@@ -11,16 +11,16 @@ use Rattle.decoding.specs.Decoding.{rule_in}
 use Rattle.places.proofs.Starts.{place_symbol, pair_room, place_pair}
 use Rattle.places.proofs.place_halves.Lts as lts
 use Rattle.places.proofs.place_halves.Reads as reads
+use Rattle.places.proofs.place_halves.Tie as tie
 use Rattle.places.proofs.place_halves.Goals as goal
 
 abbrev In-Pair-2 : Type 0
-In-Pair-2 = lts.After-rule reads.Pre reads.Post
+In-Pair-2 = lts.After-rule tie.the-claims reads.Pre reads.Post
 
 pub returns-in_default : goal.returns-in_default
 returns-in_default c =
-    let (q, e) = c.enum_told-1.given in
     let a = c.args in
-    λ g h k. place_symbol g a.work.now a.r q.0 q.1.0 k h (sym c.rule_in-rule.ensures ∙ e)
+    λ g h k. place_symbol g a.work.now a.r c.in_default.field-0 c.in_default.field-1 k h (sym c.rule_in-rule.ensures ∙ c.in_default.is)
 
 is_pair_lem : (c : In-Pair-2) → let a = c.args in rule_in a.work.now a.r ≡ Pair c.rule-1.given.0.0 c.rule-1.given.0.1.0
 is_pair_lem c = sym c.rule_in-rule.ensures ∙ c.rule-1.given.1
@@ -35,8 +35,8 @@ pub put-requires-2 : goal.put-requires-2
 put-requires-2 c =
     omega (arith, room c.before.before.before.before.before.before.before.before.before, c.put.auto.0, c.requires.2.sizing.kept.long)
 
-pub returns : goal.returns
-returns c =
+pub returns-in_default : goal.returns
+returns-in_default c =
     let a = c.args in
     let w = a.work.now in
     let u = c.in-Pair.left in

@@ -7,10 +7,11 @@ use Rattle.places.proofs.Sizes.{size_start}
 use Rattle.places.proofs.Starts.{place_start, place_end}
 use Rattle.places.proofs.place_rules.Lts as lts
 use Rattle.places.proofs.place_rules.Reads as reads
+use Rattle.places.proofs.place_rules.Tie as tie
 use Rattle.places.proofs.place_rules.Goals as goal
 
 abbrev Start : Type 0
-Start = lts.Start reads.Pre reads.Post
+Start = lts.Start tie.the-claims reads.Pre reads.Post
 
 pub size_all-requires : goal.size_all-requires
 size_all-requires c =

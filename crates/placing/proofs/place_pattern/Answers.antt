@@ -11,13 +11,14 @@ use Rattle.rule_finds.specs.Searching.{Counting}
 use Rattle.placing.proofs.Placing.{pattern_here, counting_start, cuts_length}
 use Rattle.placing.proofs.place_pattern.Lts as lts
 use Rattle.placing.proofs.place_pattern.Reads as reads
+use Rattle.placing.proofs.place_pattern.Tie as tie
 use Rattle.placing.proofs.place_pattern.Goals as goal
 
 abbrev After-floor_log2-k : Type 0
-After-floor_log2-k = lts.After-floor_log2 reads.Pre reads.Post
+After-floor_log2-k = lts.After-floor_log2 tie.the-claims reads.Pre reads.Post
 
 abbrev After-list-n : Type 0
-After-list-n = lts.After-list reads.Pre reads.Post
+After-list-n = lts.After-list tie.the-claims reads.Pre reads.Post
 
 -- the list has at most 11 words
 few : (c : After-floor_log2-k) → c.floor_log2-k.result + 1 ≤ 11

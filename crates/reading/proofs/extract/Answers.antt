@@ -7,10 +7,11 @@ use Rattle.lists.specs.Serving.{answer_refuses}
 use Rattle.opening.proofs.Services.{ready, opening_refused, Succeeded, opening_done, opened_ready, opening_served}
 use Rattle.reading.proofs.extract.Lts as lts
 use Rattle.reading.proofs.extract.Reads as reads
+use Rattle.reading.proofs.extract.Tie as tie
 use Rattle.reading.proofs.extract.Goals as goal
 
 abbrev In-Done-2 : Type 0
-In-Done-2 = lts.After-a reads.Pre reads.Post
+In-Done-2 = lts.After-a tie.the-claims reads.Pre reads.Post
 
 pub returns-in_default : goal.returns-in_default
 unfolding extract_service table_checks
@@ -31,8 +32,8 @@ deliver_part-b-requires c = opened_ready (succeeded c.before.before.before.befor
 pub clear_front-requires : goal.clear_front-requires
 clear_front-requires c = (succeeded c.before.before.before.before.before.before.before.before).loads.long
 
-pub returns : goal.returns
+pub returns-in_default : goal.returns
 unfolding extract_service table_checks ready
-returns c =
+returns-in_default c =
     let x = succeeded c.before.before.before.before.before.before.before.before.before.before.before in
     opening_served x (refl, (refl, refl)) c.clear_front.ensures (c.deliver_part-b.ensures (ready x.loads) refl x.rules)

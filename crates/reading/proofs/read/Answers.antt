@@ -8,10 +8,11 @@ use Rattle.results.specs.Results.{with_chair}
 use Rattle.opening.proofs.Services.{ready, opening_refused, Succeeded, opening_done, opened_ready, opening_served}
 use Rattle.reading.proofs.read.Lts as lts
 use Rattle.reading.proofs.read.Reads as reads
+use Rattle.reading.proofs.read.Tie as tie
 use Rattle.reading.proofs.read.Goals as goal
 
 abbrev In-Done-2 : Type 0
-In-Done-2 = lts.After-a reads.Pre reads.Post
+In-Done-2 = lts.After-a tie.the-claims reads.Pre reads.Post
 
 pub returns-in_default : goal.returns-in_default
 unfolding read_service read_outcome with_chair
@@ -33,8 +34,8 @@ read_loaded-r-requires c = opened_ready (succeeded c.before.before.before.before
 pub clear_front-requires : goal.clear_front-requires
 clear_front-requires c = (succeeded c.before.before.before.before.before.before.before.before).loads.long
 
-pub returns : goal.returns
+pub returns-in_default : goal.returns
 unfolding read_service ready
-returns c =
+returns-in_default c =
     let x = succeeded c.before.before.before.before.before.before.before.before.before.before.before in
     opening_served x (refl, refl) c.clear_front.ensures (c.read_loaded-r.ensures (ready x.loads) refl x.rules)

@@ -18,10 +18,11 @@ use Rattle.rule_finds.proofs.Counting.{PairKnown, turn_known, pair_known, pair_f
 use Rattle.rule_finds.proofs.Short.{long_pair, short_found, short_tests}
 use Rattle.rule_finds.proofs.found_in.Lts as lts
 use Rattle.rule_finds.proofs.found_in.Reads as reads
+use Rattle.rule_finds.proofs.found_in.Tie as tie
 use Rattle.rule_finds.proofs.found_in.Goals as goal
 
 abbrev After-right_in-v : Type 0
-After-right_in-v = lts.After-right_in reads.Pre reads.Post
+After-right_in-v = lts.After-right_in tie.the-claims reads.Pre reads.Post
 
 pub found_of_one-requires : goal.found_of_one-requires
 found_of_one-requires c =
@@ -76,8 +77,8 @@ found-requires c =
     let k = known c.before.before.before.before.before in
     (k.left, k.right, k.most, k.apart, packed_small c.test_join-joined.result.found c.test_join-joined.ensures.0.number)
 
-pub returns : goal.returns
-returns c h =
+pub returns-then-m-lt2 : goal.returns
+returns-then-m-lt2 c h =
     let x = c.test_join-joined.result.found in
     let packed = c.test_join-joined.ensures.0 in (
       pair_found h c.left_in-u.result c.right_in-v.result (is_pair_lem c.before.before.before.before.before.before) c.place_of-at.result c.length_of-left.result c.length_of-right.result (x % PACK) c.found.result

@@ -9,20 +9,19 @@ use Rattle.joins.proofs.Joining.{join_one}
 use Rattle.rule_finds.proofs.Counting.{PairKnown, turn_known, pair_known, pair_found}
 use Rattle.rule_finds.proofs.found_of_one.Lts as lts
 use Rattle.rule_finds.proofs.found_of_one.Reads as reads
+use Rattle.rule_finds.proofs.found_of_one.Tie as tie
 use Rattle.rule_finds.proofs.found_of_one.Goals as goal
 
 abbrev In-Pair-2 : Type 0
-In-Pair-2 = lts.After-rule reads.Pre reads.Post
+In-Pair-2 = lts.After-rule tie.the-claims reads.Pre reads.Post
 
 pub found_in_symbol-requires : goal.found_in_symbol-requires
 found_in_symbol-requires c =
-    let (q, e) = c.enum_told-1.given in
-    record { one = c.requires; number = q.0; beside = q.1.0; rule = sym c.rule_in-rule.ensures ∙ e }
+    record { one = c.requires; number = c.in_default.field-0; beside = c.in_default.field-1; rule = sym c.rule_in-rule.ensures ∙ c.in_default.is }
 
 pub returns-in_default : goal.returns-in_default
 returns-in_default c h =
-    let (q, e) = c.enum_told-1.given in
-    c.found_in_symbol.ensures record { one = h; number = q.0; beside = q.1.0; rule = sym c.rule_in-rule.ensures ∙ e }
+    c.found_in_symbol.ensures record { one = h; number = c.in_default.field-0; beside = c.in_default.field-1; rule = sym c.rule_in-rule.ensures ∙ c.in_default.is }
 
 -- the rule is read as a pair
 is_pair_lem : (c : In-Pair-2) → let a = c.args in rule_in a.work.now a.r ≡ Pair c.rule-1.given.0.0 c.rule-1.given.0.1.0
@@ -37,8 +36,8 @@ found-requires c =
     let k = known c.before.before in
     (k.left, k.right, k.most, k.apart, omega arith)
 
-pub returns : goal.returns
-returns c h =
+pub returns-in_default : goal.returns
+returns-in_default c h =
     let a = c.args in
     let w = a.work.now in
     let u = c.in-Pair.u in

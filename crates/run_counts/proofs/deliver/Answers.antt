@@ -15,10 +15,11 @@ use Rattle.run_counts.specs.Census.{census_runs_lem, census_counts_lem}
 use Rattle.run_counts.proofs.Listed.{listed_front, listed_fits, listed_served}
 use Rattle.run_counts.proofs.deliver.Lts as lts
 use Rattle.run_counts.proofs.deliver.Reads as reads
+use Rattle.run_counts.proofs.deliver.Tie as tie
 use Rattle.run_counts.proofs.deliver.Goals as goal
 
 abbrev After-write_keys-n : Type 0
-After-write_keys-n = lts.After-write_keys reads.Pre reads.Post
+After-write_keys-n = lts.After-write_keys tie.the-claims reads.Pre reads.Post
 
 abbrev zeros : List ℕ
 zeros = replicate 2047 0

@@ -12,10 +12,11 @@ use Rattle.key_counts.specs.Keys.{count_of, distinct_keys, distinct_length}
 use Rattle.run_counts.proofs.Listed.{listed_front, listed_fits, listed_served}
 use Rattle.run_counts.proofs.deliver_keys.Lts as lts
 use Rattle.run_counts.proofs.deliver_keys.Reads as reads
+use Rattle.run_counts.proofs.deliver_keys.Tie as tie
 use Rattle.run_counts.proofs.deliver_keys.Goals as goal
 
 abbrev After-list_keys-n : Type 0
-After-list_keys-n = lts.After-list_keys reads.Pre reads.Post
+After-list_keys-n = lts.After-list_keys tie.the-claims reads.Pre reads.Post
 
 abbrev zeros : List ℕ
 zeros = replicate 2047 0

@@ -13,13 +13,14 @@ use Rattle.run_keys.specs.Keys.{run_with}
 use Rattle.run_keys.proofs.Writing.{runs_length}
 use Rattle.run_counts.proofs.deliver_listed.Lts as lts
 use Rattle.run_counts.proofs.deliver_listed.Reads as reads
+use Rattle.run_counts.proofs.deliver_listed.Tie as tie
 use Rattle.run_counts.proofs.deliver_listed.Goals as goal
 
 abbrev After-both_fit-a : Type 0
-After-both_fit-a = lts.After-both_fit reads.Pre reads.Post
+After-both_fit-a = lts.After-both_fit tie.the-claims reads.Pre reads.Post
 
 abbrev In-Done : Type 0
-In-Done = lts.After-enum_told reads.Pre reads.Post
+In-Done = lts.After-enum_told tie.the-claims reads.Pre reads.Post
 
 pub overflow_mul-q : goal.overflow_mul-q
 overflow_mul-q c =
@@ -50,8 +51,8 @@ write_runs-requires c =
 pub copy-requires : goal.copy-requires
 copy-requires c = (room c.before.before.before.before.before.before).1
 
-pub returns : goal.returns
-returns c =
+pub returns-in_default : goal.returns
+returns-in_default c =
     let a = c.args in
     both_written (wanted c.before.before.before.before.before.before.before.before.before.before.before) a.numbers.now a.runs.now a.counts.now (a.q * length a.listed.now) (length a.listed.now) (size c.before.before.before.before.before.before.before.before.before.before.before) (sym c.requires.2) c.both_fit-a.result c.both_fit-a.ensures
     c.write_runs.new.runs c.copy.new.to c.in-Done.is c.write_runs.ensures c.copy.ensures

@@ -9,13 +9,14 @@ use Rattle.run_keys.specs.Keys.{key_of}
 use Rattle.run_keys.proofs.Writing.{key_none, key_step, key_all}
 use Rattle.run_keys.proofs.key_of.Lts as lts
 use Rattle.run_keys.proofs.key_of.Reads as reads
+use Rattle.run_keys.proofs.key_of.Tie as tie
 use Rattle.run_keys.proofs.key_of.Goals as goal
 
 abbrev In-loop-i : Type 0
-In-loop-i = lts.In-loop reads.Pre reads.Post goal.the-invariant-loop-i goal.the-decreases-loop-i
+In-loop-i = lts.In-loop tie.the-claims reads.Pre reads.Post goal.the-invariant-loop-i goal.the-decreases-loop-i
 
 abbrev After-rank_of : Type 0
-After-rank_of = lts.After-rank_of reads.Pre reads.Post goal.the-invariant-loop-i goal.the-decreases-loop-i
+After-rank_of = lts.After-rank_of tie.the-claims reads.Pre reads.Post goal.the-invariant-loop-i goal.the-decreases-loop-i
 
 pub loop-i-init : goal.loop-i-init
 loop-i-init c = (omega arith, key_none c.args.run.now)

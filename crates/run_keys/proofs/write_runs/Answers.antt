@@ -7,10 +7,11 @@ use Rattle.lists.specs.Lists.{Fronted}
 use Rattle.run_keys.proofs.Writing.{runs_to, runs_none, runs_room, runs_stored, runs_all}
 use Rattle.run_keys.proofs.write_runs.Lts as lts
 use Rattle.run_keys.proofs.write_runs.Reads as reads
+use Rattle.run_keys.proofs.write_runs.Tie as tie
 use Rattle.run_keys.proofs.write_runs.Goals as goal
 
 abbrev In-loop-i : Type 0
-In-loop-i = lts.In-loop reads.Pre reads.Post goal.the-invariant-loop-i goal.the-decreases-loop-i
+In-loop-i = lts.In-loop tie.the-claims reads.Pre reads.Post goal.the-invariant-loop-i goal.the-decreases-loop-i
 
 pub loop-i-init : goal.loop-i-init
 loop-i-init c =

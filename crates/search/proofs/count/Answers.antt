@@ -17,19 +17,20 @@ use Rattle.placing.proofs.Placing.{pattern_here}
 use Rattle.search.proofs.Ending.{counted_text, counted_all}
 use Rattle.search.proofs.count.Lts as lts
 use Rattle.search.proofs.count.Reads as reads
+use Rattle.search.proofs.count.Tie as tie
 use Rattle.search.proofs.count.Goals as goal
 
 abbrev Start : Type 0
-Start = lts.Start reads.Pre reads.Post
+Start = lts.Start tie.the-claims reads.Pre reads.Post
 
 abbrev After-place_pattern-n : Type 0
-After-place_pattern-n = lts.After-place_pattern reads.Pre reads.Post
+After-place_pattern-n = lts.After-place_pattern tie.the-claims reads.Pre reads.Post
 
 abbrev After-count_rules-tests : Type 0
-After-count_rules-tests = lts.After-count_rules reads.Pre reads.Post
+After-count_rules-tests = lts.After-count_rules tie.the-claims reads.Pre reads.Post
 
 abbrev After-number_of-all : Type 0
-After-number_of-all = lts.After-number_of reads.Pre reads.Post
+After-number_of-all = lts.After-number_of tie.the-claims reads.Pre reads.Post
 
 -- the number of rules
 range : (s : Start) → (0 < s.args.rules) × (s.args.rules ≤ 2304)
@@ -110,8 +111,8 @@ overflow_sub-result c =
     let h = c.requires.0 in
     omega (arith, both c.before h.text h.chair h.loaded h.size)
 
-pub returns : goal.returns
-returns c text chair h e =
+pub returns-then-is_shorter : goal.returns
+returns-then-is_shorter c text chair h e =
     let a = c.args in
     let (counted, tests) = all_counted c.before.before.before.before text chair h e in
     let all = counted_all a.order a.pattern.now text chair _ c.place_pattern-n.result a.rules c.count_rules-tests.new.work e counted in

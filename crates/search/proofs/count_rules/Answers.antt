@@ -8,10 +8,11 @@ use Rattle.joins.specs.Joining.{longest_tail}
 use Rattle.rule_finds.proofs.Counting.{Counted, counted_none, counted_turn, counted_end, few_tests, longest_kept}
 use Rattle.search.proofs.count_rules.Lts as lts
 use Rattle.search.proofs.count_rules.Reads as reads
+use Rattle.search.proofs.count_rules.Tie as tie
 use Rattle.search.proofs.count_rules.Goals as goal
 
 abbrev Start : Type 0
-Start = lts.Start reads.Pre reads.Post goal.the-invariant-loop-r goal.the-decreases-loop-r
+Start = lts.Start tie.the-claims reads.Pre reads.Post goal.the-invariant-loop-r goal.the-decreases-loop-r
 
 -- rule r of those that are counted
 low : (s : Start) (r : ℕ) → r < s.args.rules → r < 2304

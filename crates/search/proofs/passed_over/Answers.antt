@@ -18,16 +18,17 @@ use Rattle.rule_finds.specs.Searching.{Counting}
 use Rattle.search.proofs.Passing.{start, none_passed, unlike, first_passed}
 use Rattle.search.proofs.passed_over.Lts as lts
 use Rattle.search.proofs.passed_over.Reads as reads
+use Rattle.search.proofs.passed_over.Tie as tie
 use Rattle.search.proofs.passed_over.Goals as goal
 
 abbrev Start : Type 0
-Start = lts.Start reads.Pre reads.Post
+Start = lts.Start tie.the-claims reads.Pre reads.Post
 
 abbrev Else-length_of-m : Type 0
-Else-length_of-m = lts.Else2 reads.Pre reads.Post
+Else-length_of-m = lts.Else2 tie.the-claims reads.Pre reads.Post
 
 abbrev After-equal_many : Type 0
-After-equal_many = lts.After-equal_many reads.Pre reads.Post
+After-equal_many = lts.After-equal_many tie.the-claims reads.Pre reads.Post
 
 -- the number of rules, and how long pattern and work slice are
 range : (s : Start) → (0 < s.args.rules) × (s.args.rules ≤ 2304)
@@ -80,8 +81,8 @@ compared c =
 pub returns-then-equal_many : goal.returns-then-equal_many
 returns-then-equal_many c o p text chair n h e = decided c.before.before.before.before.before.before.before.before true (compared c.before.before ∙ c.if-equal_many.true) o p text chair n h e
 
-pub returns : goal.returns
-returns c o p text chair n h e = decided c.before.before.before.before.before.before.before.before false (compared c.before.before ∙ c.if-equal_many.false) o p text chair n h e
+pub returns-then-from-eq0 : goal.returns
+returns-then-from-eq0 c o p text chair n h e = decided c.before.before.before.before.before.before.before.before false (compared c.before.before ∙ c.if-equal_many.false) o p text chair n h e
 
 pub overflow_sub-rules : goal.overflow_sub-rules
 overflow_sub-rules c = omega (arith, range c.before.before.before)

@@ -17,13 +17,14 @@ use Rattle.results.proofs.Answers.{tests_done, search_refuses}
 use Rattle.opening.proofs.Services.{ready, opened_table, opening_refused, Succeeded, opening_done, opened_ready, opening_lent}
 use Rattle.searching.proofs.count.Lts as lts
 use Rattle.searching.proofs.count.Reads as reads
+use Rattle.searching.proofs.count.Tie as tie
 use Rattle.searching.proofs.count.Goals as goal
 
 abbrev After-admit-a : Type 0
-After-admit-a = lts.After-admit reads.Pre reads.Post
+After-admit-a = lts.After-admit tie.the-claims reads.Pre reads.Post
 
 abbrev In-Done-a-2 : Type 0
-In-Done-a-2 = lts.After-a reads.Pre reads.Post
+In-Done-a-2 = lts.After-a tie.the-claims reads.Pre reads.Post
 
 pub returns-in_default : goal.returns-in_default
 unfolding count_service
@@ -61,9 +62,9 @@ count_loaded-n-requires c =
 pub clear_front-requires : goal.clear_front-requires
 clear_front-requires c = omega (arith, (succeeded c.before.before.before.before.before.before.before).loads.long)
 
-pub returns : goal.returns
+pub returns-in_default : goal.returns
 unfolding count_service outcome_of table_checks ready
-returns c =
+returns-in_default c =
     let a = c.args in
     let x = succeeded c.before.before.before.before.before.before.before.before.before.before.before in
     let n = c.count_loaded-n.result in

@@ -16,13 +16,14 @@ use Rattle.results.proofs.Answers.{search_refuses}
 use Rattle.opening.proofs.Services.{ready, opened_table, opening_refused, Succeeded, opening_done, opened_ready, opening_lent}
 use Rattle.searching.proofs.locate.Lts as lts
 use Rattle.searching.proofs.locate.Reads as reads
+use Rattle.searching.proofs.locate.Tie as tie
 use Rattle.searching.proofs.locate.Goals as goal
 
 abbrev After-admit-a : Type 0
-After-admit-a = lts.After-admit reads.Pre reads.Post
+After-admit-a = lts.After-admit tie.the-claims reads.Pre reads.Post
 
 abbrev In-Done-a-2 : Type 0
-In-Done-a-2 = lts.After-a reads.Pre reads.Post
+In-Done-a-2 = lts.After-a tie.the-claims reads.Pre reads.Post
 
 pub returns-in_default : goal.returns-in_default
 unfolding locate_service
@@ -63,9 +64,9 @@ locate_loaded-b-requires c =
 pub clear_front-requires : goal.clear_front-requires
 clear_front-requires c = omega (arith, (succeeded c.before.before.before.before.before.before.before.before.before.before).loads.long)
 
-pub returns : goal.returns
+pub returns-in_default : goal.returns
 unfolding locate_service ready
-returns c =
+returns-in_default c =
     let a = c.args in
     let p = a.pattern.now in
     let x = succeeded c.before.before.before.before.before.before.before.before.before.before.before.before.before in

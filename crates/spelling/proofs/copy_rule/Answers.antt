@@ -11,13 +11,14 @@ use Rattle.definitions.specs.Table.{byte_of}
 use Rattle.spelling.proofs.Texts.{piece_count, rule_low, rule_inside, rule_piece}
 use Rattle.spelling.proofs.copy_rule.Lts as lts
 use Rattle.spelling.proofs.copy_rule.Reads as reads
+use Rattle.spelling.proofs.copy_rule.Tie as tie
 use Rattle.spelling.proofs.copy_rule.Goals as goal
 
 abbrev Start : Type 0
-Start = lts.Start reads.Pre reads.Post
+Start = lts.Start tie.the-claims reads.Pre reads.Post
 
 abbrev After-wide-count : Type 0
-After-wide-count = lts.After-wide2 reads.Pre reads.Post
+After-wide-count = lts.After-wide2 tie.the-claims reads.Pre reads.Post
 
 low : (s : Start) → s.args.r < 2304
 low s = rule_low s.args.work.now s.requires.0 s.args.r s.requires.2.low

@@ -8,10 +8,11 @@ use Rattle.layout.specs.Layout.{LENGTHS}
 use Rattle.spelling.proofs.Texts.{loaded_length}
 use Rattle.spelling.proofs.text_length.Lts as lts
 use Rattle.spelling.proofs.text_length.Reads as reads
+use Rattle.spelling.proofs.text_length.Tie as tie
 use Rattle.spelling.proofs.text_length.Goals as goal
 
 abbrev Start : Type 0
-Start = lts.Start reads.Pre reads.Post
+Start = lts.Start tie.the-claims reads.Pre reads.Post
 
 root : (s : Start) → (get_or s.args.work.now (LENGTHS + (s.args.rules - 1)) 0 ≡ suc (length s.requires.0.text)) × (0 < s.args.rules) × (s.args.rules ≤ 2304)
 root s = loaded_length s.args.work.now s.requires.0 s.args.rules s.requires.1

@@ -11,10 +11,11 @@ use Rattle.definitions.specs.Table.{byte_of}
 use Rattle.spelling.proofs.Texts.{loaded_piece}
 use Rattle.spelling.proofs.write_part.Lts as lts
 use Rattle.spelling.proofs.write_part.Reads as reads
+use Rattle.spelling.proofs.write_part.Tie as tie
 use Rattle.spelling.proofs.write_part.Goals as goal
 
 abbrev Start : Type 0
-Start = lts.Start reads.Pre reads.Post
+Start = lts.Start tie.the-claims reads.Pre reads.Post
 
 -- the part ends in the work slice
 inside : (s : Start) → 1 + s.args.start + s.args.count ≤ 2048

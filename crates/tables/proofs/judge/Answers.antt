@@ -8,10 +8,11 @@ use Rattle.tables.specs.Loading.{Spelled}
 use Rattle.tables.proofs.Loading.{refused}
 use Rattle.tables.proofs.judge.Lts as lts
 use Rattle.tables.proofs.judge.Reads as reads
+use Rattle.tables.proofs.judge.Tie as tie
 use Rattle.tables.proofs.judge.Goals as goal
 
 abbrev After-fill_all : Type 0
-After-fill_all = lts.After-fill_all reads.Pre reads.Post
+After-fill_all = lts.After-fill_all tie.the-claims reads.Pre reads.Post
 
 pub returns-then-not-measure : goal.returns-then-not-measure
 returns-then-not-measure c =
@@ -44,9 +45,9 @@ written c r =
 pub keep-requires : goal.keep-requires
 keep-requires c = written c.before.before.before.before.before (not-false c.fill_all.result c.if-not-fill_all.left)
 
-pub returns : goal.returns
+pub returns-then-not-measure : goal.returns
 unfolding written
-returns c =
+returns-then-not-measure c =
     c.keep.ensures (written c.before.before.before.before.before.before.before.before (not-false c.fill_all.result c.if-not-fill_all.left))
 
 pub measure-requires : goal.measure-requires

@@ -9,10 +9,11 @@ use Rattle.definitions.specs.Table.{rule_count}
 use Rattle.tables.proofs.Loading.{front_size, front_filled, unmarked, marked_sound, kept_loaded, refused, accepted}
 use Rattle.tables.proofs.keep.Lts as lts
 use Rattle.tables.proofs.keep.Reads as reads
+use Rattle.tables.proofs.keep.Tie as tie
 use Rattle.tables.proofs.keep.Goals as goal
 
 abbrev Start : Type 0
-Start = lts.Start reads.Pre reads.Post
+Start = lts.Start tie.the-claims reads.Pre reads.Post
 
 pub is_marked-requires : goal.is_marked-requires
 is_marked-requires c =
@@ -24,8 +25,8 @@ returns-then-not-is_marked c =
     let a = c.args in
     λ k. refused k.order a.table.now a.work.now (unmarked k c.wide-n.result c.wide-n.ensures (c.is_marked.ensures.1 (not-true c.is_marked.result c.if-not-is_marked.true-raw)))
 
-pub returns : goal.returns
-returns c =
+pub returns-then-not-is_marked : goal.returns
+returns-then-not-is_marked c =
     let a = c.args in
     λ k. let sound = marked_sound k c.wide-n.result c.wide-n.ensures (front_filled k c.wide-n.result c.wide-n.ensures) (c.is_marked.ensures.0 (not-false c.is_marked.result c.if-not-is_marked.false-raw)) in
     accepted k.order a.table.now _ sound (kept_loaded k sound c.copy.new.to c.copy.ensures)
