@@ -42,9 +42,9 @@ clear_front-requires c =
     let n = length c.args.work.now in
     omega (arith, ltb-false n WORK (done_met (work_too_short n) n c.work_fits-w.ensures c.in-Done-w.is).0)
 
-pub returns-in_default : goal.returns
+pub returns : goal.returns
 unfolding build_service
-returns-in_default c =
+returns c =
     let a = c.args in
     let text = a.text.now in
     let n = length a.work.now in

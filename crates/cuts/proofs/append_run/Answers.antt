@@ -43,8 +43,8 @@ append-requires c =
       c.requires.2,
     )
 
-pub returns-then-run-m : goal.returns
-returns-then-run-m c =
+pub returns : goal.returns
+returns c =
     let a = c.args in
     let r = a.run in
     let b = c.is_last_listed.result in

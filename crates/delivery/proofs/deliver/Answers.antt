@@ -15,7 +15,7 @@ copy-requires c =
     let a = c.args in
     list_fits a.words.now a.result.now (length a.words.now) refl c.result_fits-a.result c.result_fits-a.ensures c.in-Done.is
 
-pub returns-in_default : goal.returns
-returns-in_default c =
+pub returns : goal.returns
+returns c =
     let a = c.args in
     list_written a.words.now a.result.now (length a.words.now) refl c.result_fits-a.result c.result_fits-a.ensures c.copy.new.to c.in-Done.is c.copy.ensures

@@ -37,8 +37,8 @@ write_part-requires c =
       omega (arith, d, list_fits (take a.count (drop a.start h.text)) old _ d c.result_fits-a.result c.result_fits-a.ensures c.in-Done-a.is),
     )
 
-pub returns-in_default : goal.returns
-returns-in_default c h e size =
+pub returns : goal.returns
+returns c h e size =
     let a = c.args in
     let old = a.result.now in
     let d = piece_size h.text old a.start a.count c.text_length.result (c.text_length.ensures h size) c.range_fits-range.result c.range_fits-range.ensures c.in-Done.is in

@@ -53,7 +53,7 @@ loop-r-preserved c =
       λ n d. (walk_next a.rules.now a.links.now n a.x a.y c.loop-r.r c.wide-r-in-loop-r.result d (c.loop-r.invariant.2 n d) (omega arith) other c.wide-r-in-loop-r.ensures).0,
     )
 
-pub returns-then-rules-k-2 : goal.returns
-returns-then-rules-k-2 c n d =
+pub returns : goal.returns
+returns c n d =
     let a = c.args in
     walk_ended a.rules.now n a.x a.y c.loop-r.r (c.loop-r.invariant.2 n d) (omega arith)

@@ -86,7 +86,7 @@ loop-j-preserved c =
 pub shape_of-work : goal.shape_of-work
 shape_of-work c = c.loop-j.invariant.0
 
-pub returns-then-not-before : goal.returns
-returns-then-not-before c =
+pub returns : goal.returns
+returns c =
     let a = c.args in
     turned_last a.work.now c.loop-j.work a.n a.i c.loop-j.j (omega arith) (omega arith) c.loop-j.invariant.1 (omega arith)

@@ -30,8 +30,8 @@ pub loop-r-preserved : goal.loop-r-preserved
 loop-r-preserved c =
     (omega (arith, c.loop-r.invariant.0), c.enter_halves.auto.1.0 ∙ c.loop-r.invariant.1, c.enter_halves.ensures.0 (not-false c.enter_halves.result c.if-not-enter_halves.false-raw))
 
-pub returns-then-not-enter_halves : goal.returns
-returns-then-not-enter_halves c =
+pub returns : goal.returns
+returns c =
     let z : c.loop-r.r ≡ 0 = omega (arith, c.loop-r-test.false) in
     (λ e. all_placed (subst (λ (n : ℕ). Entered c.args.table.now n c.loop-r.work) z c.loop-r.invariant.2), λ e. contra refl e)
 

@@ -35,8 +35,8 @@ loop-r-preserved c = (
   c.fill_rule.ensures.0 (not-false c.fill_rule.result c.if-not-fill_rule.false-raw),
 )
 
-pub returns-then-not-fill_rule : goal.returns
-returns-then-not-fill_rule c =
+pub returns : goal.returns
+returns c =
     let a = c.args in
     let z : c.loop-r.r ≡ rule_count a.table.now = omega (arith, c.loop-r.invariant.2, c.loop-r.invariant.1, c.loop-r-test.false) in
     (λ e. subst (λ (n : ℕ). Filling a.order a.table.now n c.loop-r.work) z c.loop-r.invariant.4, λ e. contra refl e)

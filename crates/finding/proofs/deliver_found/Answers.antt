@@ -20,8 +20,8 @@ list-requires c =
       list_fits (occurrences h.pattern (drop a.from h.text)) a.result.now a.n c.requires.3 c.result_fits-fits.result c.result_fits-fits.ensures c.in-Done.is,
     )
 
-pub returns-in_default : goal.returns
-returns-in_default c h e q =
+pub returns : goal.returns
+returns c h e q =
     let a = c.args in
     list_written (occurrences h.pattern (drop a.from h.text)) a.result.now a.n q c.result_fits-fits.result c.result_fits-fits.ensures c.list.new.res
     c.in-Done.is (c.list.ensures h e).1

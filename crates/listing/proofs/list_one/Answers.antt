@@ -16,8 +16,8 @@ returns-then-place-first c =
     let e = drive_before a.first a.place c.if-place-first.true in
     (omega (arith, ap length e), sym (ap (λ (l : List _). placed_from a.n l a.result.now) e ∙ from_none a.n a.result.now))
 
-pub returns-then-place-first : goal.returns
-returns-then-place-first c =
+pub returns : goal.returns
+returns c =
     let a = c.args in
     let e = drive_there a.first a.place (omega (arith, c.if-place-first.false)) in (
       omega (arith, ap length e),

@@ -22,7 +22,7 @@ pub answer_built-requires : goal.answer_built-requires
 answer_built-requires c =
     ((drive_done c.args.input.now c.build_drive-a.result _ c.build_drive-a.new.table c.build_drive-a.ensures _ c.in-Done.is).1, c.requires)
 
-pub returns-in_default : goal.returns
-returns-in_default c =
+pub returns : goal.returns
+returns c =
     let e = (drive_done c.args.input.now c.build_drive-a.result _ c.build_drive-a.new.table c.build_drive-a.ensures _ c.in-Done.is).2 in
     (c.answer_built.ensures.value ∙ ap length e, c.answer_built.ensures.out_after ∙ ap (λ (x : List ℕ). placed x c.args.out.now) e)

@@ -6,5 +6,5 @@ use Rattle.naive.proofs.noted.Goals as goal
 pub returns-then-found : goal.returns-then-found
 returns-then-found c = (simp c.if-found.true, simp c.if-found.true)
 
-pub returns-then-found : goal.returns
-returns-then-found c = (simp c.if-found.false (omega arith), simp c.if-found.false)
+pub returns : goal.returns
+returns c = (simp c.if-found.false (omega arith), simp c.if-found.false)
