@@ -36,7 +36,7 @@ pub returns-then-not-before : goal.returns-then-not-before
 returns-then-not-before c =
     let a = c.args in
     let u = turn a.work.now c.loop-j.work a.n a.i c.loop-j.j c.wide-k.result (omega arith) (omega arith) c.loop-j.invariant.0 c.loop-j.invariant.1 (omega arith) c.wide-k.ensures in
-    u.stopped (sym c.before-in-loop-j.ensures ∙ not-true c.before-in-loop-j.result c.if-not-before.true)
+    u.stopped (sym c.before-in-loop-j.ensures ∙ not-true c.before-in-loop-j.result c.if-not-before.true-raw)
 
 pub overflow_add-j-in-loop-j-2 : goal.overflow_add-j-in-loop-j-2
 overflow_add-j-in-loop-j-2 c =
@@ -78,7 +78,7 @@ pub loop-j-preserved : goal.loop-j-preserved
 loop-j-preserved c =
     let a = c.args in
     let u = turn a.work.now c.loop-j.work a.n a.i c.loop-j.j c.wide-k.result (omega arith) (omega arith) c.loop-j.invariant.0 c.loop-j.invariant.1 (omega arith) c.wide-k.ensures in
-    let (t, m) = u.joined (sym c.before-in-loop-j.ensures ∙ not-false c.before-in-loop-j.result c.if-not-before.false) in (
+    let (t, m) = u.joined (sym c.before-in-loop-j.ensures ∙ not-false c.before-in-loop-j.result c.if-not-before.false-raw) in (
       c.bump.auto.work ∙ c.loop-j.invariant.0,
       (t, subst (λ (l : List ℕ). Merging (part 0 a.n a.work.now) a.i (c.loop-j.j + c.wide-k.result) t l) (sym c.bump.ensures) m),
     )
