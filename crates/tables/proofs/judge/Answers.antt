@@ -6,13 +6,8 @@ use borrow.Author.Tests.{not-true, not-false}
 use Rattle.twins.proofs.Looking.{only_mark}
 use Rattle.tables.specs.Loading.{Spelled}
 use Rattle.tables.proofs.Loading.{refused}
-use Rattle.tables.proofs.judge.Lts as lts
-use Rattle.tables.proofs.judge.Reads as reads
-use Rattle.tables.proofs.judge.Tie as tie
+use Rattle.tables.proofs.judge.Goals.{After-fill_all}
 use Rattle.tables.proofs.judge.Goals as goal
-
-abbrev After-fill_all : Type 0
-After-fill_all = lts.After-fill_all tie.the-claims reads.Pre reads.Post
 
 pub returns-then-not-measure : goal.returns-then-not-measure
 returns-then-not-measure c =
@@ -43,12 +38,12 @@ written c r =
     record { order = c.args.order; new = c.requires.new; filling = c.fill_all.ensures.0 r }
 
 pub keep-requires : goal.keep-requires
-keep-requires c = written c.before.before.before.before.before (not-false c.fill_all.result c.if-not-fill_all.left)
+keep-requires c = written (goal.at.keep-requires c).After-fill_all (not-false c.fill_all.result c.if-not-fill_all.left)
 
-pub returns-then-not-measure : goal.returns
+pub returns : goal.returns
 unfolding written
-returns-then-not-measure c =
-    c.keep.ensures (written c.before.before.before.before.before.before.before.before (not-false c.fill_all.result c.if-not-fill_all.left))
+returns c =
+    c.keep.ensures (written (goal.at.returns c).After-fill_all (not-false c.fill_all.result c.if-not-fill_all.left))
 
 pub measure-requires : goal.measure-requires
 measure-requires c = c.requires.lent
