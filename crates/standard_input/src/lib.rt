@@ -1,7 +1,8 @@
 // Standard input, as the programs read it: to its end, or until a slice is full.
 #![tactic(auto)]
 
-ghost use Rattle.std.specs.Prelude.{◌≡◌, length};
+ghost use Rattle.std.specs.Prelude.{◌≡◌, ◌≤◌, length, take};
+ghost use Rattle.std.specs.Io.KnownBytes.{Consumes};
 ghost use Rattle.standard_input.specs.Reading.{Fits, HasRead, answer_at};
 
 use std::io;
@@ -40,4 +41,20 @@ fn ended(got: io::Result<usize>, n: usize) -> Input
         return Input::Failed;
     }
     Input::Read(n)
+}
+
+// Reads until the slice is full, the input ends or a read fails, and answers how many bytes were read.
+pub fn read_front<R: Read>(reader: &mut R, input: &mut [u8]) -> usize
+    ensures fits { result ≤ length input.new }
+    ensures bytes { Consumes (R.remaining reader.old) (R.remaining reader.new) (take result input.new) }
+{
+    let mut done = 0;
+    while done < input.len() {
+        let more = reader.read(&mut input[done..]).unwrap_or(0);
+        if more == 0 {
+            return done;
+        }
+        done += more;
+    }
+    done
 }
