@@ -97,7 +97,8 @@ fn try_table<'a>(to: Stdout, content: Content, table: &'a [u32], drive: &'a [u8]
 fn try_samples<'a>(to: Stdout, table: &'a [u32], drive: &'a [u8], motif: &'a [u8]) {
     print_number(to, b" rules ", table.len() / 2);
     print_tests(
-        to, search(to, b" found", Content::Samples, table, drive, motif),
+        to,
+        search(to, b" found", Content::Samples, table, drive, motif),
         table,
         motif,
     );
@@ -169,7 +170,13 @@ fn measure<'a>(to: Stdout, table: &'a [u32], drive: &'a [u8]) {
 }
 
 // Prints the Lyndon array, and whether single calls and the naive side have the same lengths.
-fn print_lengths<'a>(to: Stdout, n: usize, lengths: &'a [u32; 64], table: &'a [u32], drive: &'a [u8]) {
+fn print_lengths<'a>(
+    to: Stdout,
+    n: usize,
+    lengths: &'a [u32; 64],
+    table: &'a [u32],
+    drive: &'a [u8],
+) {
     print_list(to, b" lengths", lengths, n);
     if all_agree(to, n, lengths, table, drive) {
         print(to, b" by all");
@@ -177,7 +184,13 @@ fn print_lengths<'a>(to: Stdout, n: usize, lengths: &'a [u32; 64], table: &'a [u
 }
 
 // Whether there are n lengths, each what a single call answers for its position, and what the naive side says.
-fn all_agree<'a>(to: Stdout, n: usize, lengths: &'a [u32; 64], table: &'a [u32], drive: &'a [u8]) -> bool {
+fn all_agree<'a>(
+    to: Stdout,
+    n: usize,
+    lengths: &'a [u32; 64],
+    table: &'a [u32],
+    drive: &'a [u8],
+) -> bool {
     if 63 < drive.len() {
         return false;
     }
@@ -213,7 +226,14 @@ fn cut(to: Stdout, motif: &[u8]) {
 }
 
 // Prints the list of n entries that the library has, and whether it is that of m entries that the naive side has.
-fn print_compared<'a>(to: Stdout, name: &[u8], n: usize, list: &'a [u32; 64], m: usize, naive: &'a [u32; 64]) {
+fn print_compared<'a>(
+    to: Stdout,
+    name: &[u8],
+    n: usize,
+    list: &'a [u32; 64],
+    m: usize,
+    naive: &'a [u32; 64],
+) {
     print_list(to, name, list, n);
     print_both(to, (n == m) & equal(list, naive));
 }
@@ -222,7 +242,11 @@ fn print_compared<'a>(to: Stdout, name: &[u8], n: usize, list: &'a [u32; 64], m:
 fn judge(to: Stdout, drive: &[u8]) {
     let mut work = [7u32; 16384];
     let mut table = [7u32; 254];
-    print_judged(to, index::build_profile(drive, 0, &mut work, &mut table), drive);
+    print_judged(
+        to,
+        index::build_profile(drive, 0, &mut work, &mut table),
+        drive,
+    );
 }
 
 // Checks the table of a drive in that profile.
