@@ -10,5 +10,5 @@ loop-done-preserved g c =
       fits = omega (arith, c.read.auto.buf);
       same_length = search rules;
       bytes = behind _ _ _ c.read.result (length c.loop-done.input - c.loop-done.done) c.loop-done.done c.unwrap_or-more.result c.loop-done.input c.read.new.buf
-    c.loop-done.invariant.fits c.read.ensures.bound c.read.ensures.bytes c.unwrap_or-more.ensures c.loop-done.invariant.bytes;
+          c.loop-done.invariant.fits c.read.ensures.bound c.read.ensures.bytes c.unwrap_or-more.ensures c.loop-done.invariant.bytes;
     }
