@@ -2,16 +2,8 @@
 use Rattle.std.proofs.Common.{◌≡◌, ℕ, cond, sym, ◌∙◌, arith}
 use Rattle.lists.specs.Bools.{cond_true, cond_false}
 use Rattle.bad_words.proofs.Words.{bad_of, left_bad, other_bad, symbol_bad}
-use Rattle.bad_words.proofs.bad_of.Lts as lts
-use Rattle.bad_words.proofs.bad_of.Reads as reads
-use Rattle.bad_words.proofs.bad_of.Tie as tie
+use Rattle.bad_words.proofs.bad_of.Goals.{After-is_beside_symbol, After-is_half-then-is_half}
 use Rattle.bad_words.proofs.bad_of.Goals as goal
-
-abbrev After-is_half-then-is_half : Type 0
-After-is_half-then-is_half = lts.After-is_half2 tie.the-claims reads.Pre reads.Post
-
-abbrev After-is_beside_symbol : Type 0
-After-is_beside_symbol = lts.After-is_beside_symbol tie.the-claims reads.Pre reads.Post
 
 -- behind a left half, and behind a symbol
 left : (c : After-is_half-then-is_half) → let a = c.args in ◌≡◌ {A = ℕ} (bad_of a.r a.x a.y) (cond c.is_half-then-is_half.result 0 2)
@@ -36,13 +28,13 @@ pub is_half-requires-then-is_half : goal.is_half-requires-then-is_half
 is_half-requires-then-is_half c = omega (arith, c.requires)
 
 pub returns-then-is_half-2 : goal.returns-then-is_half-2
-returns-then-is_half-2 c = sym (left c.before.before ∙ cond_true _ 0 2 c.if-is_half-2.true)
+returns-then-is_half-2 c = sym (left (goal.at.returns-then-is_half-2 c).After-is_half-then-is_half ∙ cond_true _ 0 2 c.if-is_half-2.true)
 
 pub returns-then-is_half : goal.returns-then-is_half
-returns-then-is_half c = sym (left c.before.before ∙ cond_false _ 0 2 c.if-is_half-2.false)
+returns-then-is_half c = sym (left (goal.at.returns-then-is_half c).After-is_half-then-is_half ∙ cond_false _ 0 2 c.if-is_half-2.false)
 
 pub returns-then-is_beside_symbol : goal.returns-then-is_beside_symbol
-returns-then-is_beside_symbol c = sym (symbol c.before.before ∙ cond_true _ 0 2 c.if-is_beside_symbol.true)
+returns-then-is_beside_symbol c = sym (symbol (goal.at.returns-then-is_beside_symbol c).After-is_beside_symbol ∙ cond_true _ 0 2 c.if-is_beside_symbol.true)
 
 pub returns : goal.returns
-returns c = sym (symbol c.before.before ∙ cond_false _ 0 2 c.if-is_beside_symbol.false)
+returns c = sym (symbol (goal.at.returns c).After-is_beside_symbol ∙ cond_false _ 0 2 c.if-is_beside_symbol.false)

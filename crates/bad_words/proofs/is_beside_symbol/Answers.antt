@@ -16,6 +16,6 @@ pub returns-then-r-eq0 : goal.returns-then-r-eq0
 unfolding kind_of number_of
 returns-then-r-eq0 c = let a = c.args in rw (eq-eqb (a.y / KIND) 3 c.if-y-ne3.false, eq-eqb a.r 0 c.if-r-eq0.true)
 
-pub returns-then-y-ne3 : goal.returns
+pub returns : goal.returns
 unfolding kind_of number_of
-returns-then-y-ne3 c = let a = c.args in rw (eq-eqb (a.y / KIND) 3 c.if-y-ne3.false, ne_eqb a.r 0 c.if-r-eq0.false) (no_more (a.y % KIND))
+returns c = let a = c.args in rw (eq-eqb (a.y / KIND) 3 c.if-y-ne3.false, ne_eqb a.r 0 c.if-r-eq0.false) (no_more (a.y % KIND))

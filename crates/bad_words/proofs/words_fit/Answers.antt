@@ -21,5 +21,5 @@ loop-r-preserved c =
     let (low, size, good) = c.loop-r.invariant in
     (omega arith, size, good_passed good c.bad_of-bad.result c.bad_of-bad.ensures (omega (arith, c.if-bad-ne0.false)))
 
-pub returns-then-bad-ne0 : goal.returns
-returns-then-bad-ne0 c = all_good c.loop-r.invariant.2 (omega arith) c.requires.0
+pub returns : goal.returns
+returns c = all_good c.loop-r.invariant.2 (omega arith) c.requires.0

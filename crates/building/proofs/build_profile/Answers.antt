@@ -14,9 +14,9 @@ returns-in_default c =
     let text = c.args.text.now in
     refused_front (drive_checks text) _ (length text) (refl, (refl, (refl, refl))) c.drive_fits-p.ensures c.in_default.is (answer_refuses c.drive_fits-p.result) (λ d e. rw e)
 
-pub returns-in_default : goal.returns
+pub returns : goal.returns
 unfolding build_profile_service build_service drive_checks profile_checks
-returns-in_default c =
+returns c =
     let text = c.args.text.now in
     let all = (done_all (drive_checks text) (length text) c.drive_fits-p.ensures c.in-Done.is).0 in
     passed all (passed_over (passed_parts (text_too_long text ∷ []) all).0 c.build.ensures)

@@ -12,5 +12,5 @@ use Rattle.capi.proofs.sirbolta_locate.Goals as goal
 pub returns : goal.returns
 returns c =
     let a = c.args in
-    subst (λ (x : Content). Serves (locate_service sample_order a.table.now x a.pattern.now a.work.now a.result.now) (SearchReplies c.replied_search.result) (c.locate.new.work ∷ c.locate.new.res ∷ []))
+    subst (λ (x : Content). Serves (locate_service sample_order a.table.now x a.pattern.now a.work.now a.res.now) (SearchReplies c.replied_search.result) (c.locate.new.work ∷ c.locate.new.res ∷ []))
     c.content_of.ensures (said (search_replies _ _ c.replied_search.ensures) c.locate.ensures)

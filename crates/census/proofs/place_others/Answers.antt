@@ -10,13 +10,8 @@ use Rattle.definitions.specs.Services.{sample_order, cleared, table_checks}
 use Rattle.lists.specs.Decisions.{Passed}
 use Rattle.census.specs.Samples.{SoFar, number_below, put_all, number_more, number_all, number_most, so_far_more, turn}
 use Rattle.census.specs.Accepted.{accepted}
-use Rattle.census.proofs.place_others.Lts as lts
-use Rattle.census.proofs.place_others.Reads as reads
-use Rattle.census.proofs.place_others.Tie as tie
+use Rattle.census.proofs.place_others.Goals.{After-amount_of-n}
 use Rattle.census.proofs.place_others.Goals as goal
-
-abbrev After-amount_of-n : Type 0
-After-amount_of-n = lts.After-amount_of tie.the-claims reads.Pre reads.Post goal.the-invariant-loop-sample goal.the-decreases-loop-sample
 
 pub loop-sample-init : goal.loop-sample-init
 loop-sample-init c = (omega arith, refl, refl, omega arith, c.requires.first)
@@ -53,26 +48,28 @@ loop-sample-preserved c =
     let b = c.loop-sample.sample + 1 in
     let one : suc c.loop-sample.sample ≡ b = omega arith in (
       omega arith,
-      (turned c.before).0 ∙ c.loop-sample.invariant.1,
-      c.place_sample.auto.1.1.1.0 ∙ c.loop-sample.invariant.2,
-      (number c.before).0,
-      so_far_more text b c.loop-sample.drive c.place_sample.new.drive (turned c.before).2 (subst (λ (k : ℕ). SoFar text k c.loop-sample.drive) one c.loop-sample.invariant.4),
+      (turned (goal.at.loop-sample-preserved c).After-amount_of-n).0 ∙ c.loop-sample.invariant.1,
+      c.place_sample.auto.drive ∙ c.loop-sample.invariant.2,
+      (number (goal.at.loop-sample-preserved c).After-amount_of-n).0,
+      so_far_more text b c.loop-sample.drive c.place_sample.new.drive (turned (goal.at.loop-sample-preserved c).After-amount_of-n).2 (subst (λ (k : ℕ). SoFar text k c.loop-sample.drive) one c.loop-sample.invariant.4),
     )
 
 pub returns : goal.returns
 returns c =
     let t = c.args.table.now in
     let text = text_of sample_order t in
-    let last : suc c.loop-sample.sample ≡ 256 = omega arith in (
+    let last : suc c.loop-sample.sample ≡ 256 = omega arith in
+    let (first, second, third) = (
       c.loop-sample.invariant.3 ∙ ap (number_below text) last ∙ number_all text (accepted sample_order t (length c.args.work.now) c.requires.passes).1,
       (c.loop-sample.invariant.1, subst (λ (k : ℕ). SoFar text k c.loop-sample.drive) last c.loop-sample.invariant.4),
-    )
+    ) in
+    record { result_value = first; work_unchanged = second; so_far = third }
 
 pub place_sample-requires : goal.place_sample-requires
 place_sample-requires c = c.loop-sample.invariant.2 ∙ c.requires.size
 
 pub overflow_add-n : goal.overflow_add-n
-overflow_add-n c = omega (arith, (number c.before).1)
+overflow_add-n c = omega (arith, (number (goal.at.overflow_add-n c).After-amount_of-n).1)
 
 pub shape_of-work : goal.shape_of-work
 shape_of-work c = ap length c.loop-sample.invariant.1

@@ -14,16 +14,8 @@ use Rattle.run_counts.proofs.Listed.{listed_front, listed_fits}
 use Rattle.census.specs.Samples.{Tried, tried_refused, tried_done, done_tried, Places, put_all, occurs_below}
 use Rattle.census.specs.Accepted.{accepted}
 use Rattle.census.proofs.Locating.{located}
-use Rattle.census.proofs.place_sample.Lts as lts
-use Rattle.census.proofs.place_sample.Reads as reads
-use Rattle.census.proofs.place_sample.Tie as tie
+use Rattle.census.proofs.place_sample.Goals.{After-locate-found, In-Done}
 use Rattle.census.proofs.place_sample.Goals as goal
-
-abbrev After-locate-found : Type 0
-After-locate-found = lts.After-locate tie.the-claims reads.Pre reads.Post
-
-abbrev In-Done : Type 0
-In-Done = lts.After-known_told tie.the-claims reads.Pre reads.Post
 
 abbrev zeros : List ℕ
 zeros = replicate 2047 0
@@ -40,29 +32,29 @@ told c =
     located sample_order a.table.now a.work.now zeros a.sample refl c.locate-found.result c.locate-found.new.work c.locate-found.new.res c.locate-found.ensures
 
 pub returns-in_default : goal.returns-in_default
-returns-in_default c = tried_refused (told c.before.before.before.before.before.before) c.in_default.is
+returns-in_default c = tried_refused (told (goal.at.returns-in_default c).After-locate-found) c.in_default.is
 
 -- done: the table is accepted, and the places stand at the front of the array
 found : (c : In-Done)
     → let a = c.args in
-    Passed (table_checks sample_order a.table.now (length a.work.now)) × (c.a-1.given.0.0 ≡ length (places c.before.before.before.before.before.before)) × (c.locate-found.new.work ≡ cleared a.work.now) × (c.locate-found.new.res ≡ placed (places c.before.before.before.before.before.before) zeros)
-found c = tried_done (told c.before.before.before.before.before.before) c.a-1.given.1
+    Passed (table_checks sample_order a.table.now (length a.work.now)) × (c.in-Done.n ≡ length (places (up c).After-locate-found)) × (c.locate-found.new.work ≡ cleared a.work.now) × (c.locate-found.new.res ≡ placed (places (up c).After-locate-found) zeros)
+found c = tried_done (told (up c).After-locate-found) c.in-Done.is
 
 pub slice_bounds-put_at-end : goal.slice_bounds-put_at-end
 slice_bounds-put_at-end c =
-    listed_fits (places c.before.before.before.before.before.before.before) zeros c.locate-found.new.res c.in-Done.n (found c.before).1 (found c.before).3
+    listed_fits (places (goal.at.slice_bounds-put_at-end c).After-locate-found) zeros c.locate-found.new.res c.in-Done.n (found (goal.at.slice_bounds-put_at-end c).In-Done).1 (found (goal.at.slice_bounds-put_at-end c).In-Done).3
 
-front : (c : In-Done) → take (c.a-1.given.0.0 - 0) c.locate-found.new.res ≡ places c.before.before.before.before.before.before
+front : (c : In-Done) → take (c.in-Done.n - 0) c.locate-found.new.res ≡ places (up c).After-locate-found
 front c =
-    listed_front (places c.before.before.before.before.before.before) zeros c.locate-found.new.res c.a-1.given.0.0 (found c).1 (found c).3
+    listed_front (places (up c).After-locate-found) zeros c.locate-found.new.res c.in-Done.n (found c).1 (found c).3
 
 pub put_at-requires : goal.put_at-requires
 put_at-requires c =
     let text = text_of sample_order c.args.table.now in
-    subst (λ (p : List ℕ). Places p c.args.drive.now) (sym (front c.before.before.before))
-    (λ i m. omega (arith, c.requires, (occurs_below c.args.sample text i m).0, (accepted sample_order c.args.table.now (length c.args.work.now) (found c.before.before.before).0).0))
+    subst (λ (p : List ℕ). Places p c.args.drive.now) (sym (front (goal.at.put_at-requires c).In-Done))
+    (λ i m. omega (arith, c.requires, (occurs_below c.args.sample text i m).0, (accepted sample_order c.args.table.now (length c.args.work.now) (found (goal.at.put_at-requires c).In-Done).0).0))
 
-pub returns-in_default : goal.returns
-returns-in_default c =
+pub returns : goal.returns
+returns c =
     let a = c.args in
-    done_tried (found c.before.before.before.before.before.before).0 (found c.before.before.before.before.before.before).1 (found c.before.before.before.before.before.before).2 (c.put_at.ensures ∙ ap (λ (x : List ℕ). put_all x a.sample a.drive.now) (front c.before.before.before.before.before.before)) refl
+    done_tried (found (goal.at.returns c).In-Done).0 (found (goal.at.returns c).In-Done).1 (found (goal.at.returns c).In-Done).2 (c.put_at.ensures ∙ ap (λ (x : List ℕ). put_all x a.sample a.drive.now) (front (goal.at.returns c).In-Done)) refl

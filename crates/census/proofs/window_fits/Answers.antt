@@ -9,5 +9,5 @@ returns-then-q-lt1 c = simp (lt-ltb c.args.q 1 (omega arith))
 pub returns-then-q-gt8 : goal.returns-then-q-gt8
 returns-then-q-gt8 c = let q = c.args.q in simp (le-ltb q 1 (omega arith), lt-ltb 8 q (omega arith))
 
-pub returns-then-q-lt1 : goal.returns
-returns-then-q-lt1 c = let q = c.args.q in simp (le-ltb q 1 (omega arith), le-ltb 8 q (omega arith))
+pub returns : goal.returns
+returns c = let q = c.args.q in simp (le-ltb q 1 (omega arith), le-ltb 8 q (omega arith))

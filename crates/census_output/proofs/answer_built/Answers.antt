@@ -9,39 +9,40 @@ use borrow.Author.Rules.{rules}
 use Rattle.definitions.specs.Words.{placed}
 use Rattle.census_output.proofs.Stepping.{drive_bytes}
 use Rattle.census_output.proofs.Printing.{Listed, census_refused, census_done}
-use Rattle.census_output.proofs.answer_built.Lts as lts
-use Rattle.census_output.proofs.answer_built.Reads as reads
-use Rattle.census_output.proofs.answer_built.Tie as tie
+use Rattle.census_output.proofs.answer_built.Goals.{After-window-q}
 use Rattle.census_output.proofs.answer_built.Goals as goal
-
-abbrev After-window-q : Type 0
-After-window-q = lts.After-window tie.the-claims reads.Pre reads.Post
 
 pub returns-in_default : goal.returns-in_default
 returns-in_default c =
     let e = census_refused c.args.input.now _ _ c.count_runs-a.new.runs c.count_runs-a.new.counts c.count_runs-a.result c.count_runs-a.ensures c.in_default.is in
-    (c.put_refusal.ensures.value ∙ ap length e, c.put_refusal.ensures.out_after ∙ ap (λ (x : List ℕ). placed x c.args.out.now) e)
+    record {
+      value = c.put_refusal.ensures.value ∙ ap length e;
+      out_after = c.put_refusal.ensures.out_after ∙ ap (λ (x : List ℕ). placed x c.args.out.now) e;
+    }
 
 -- what the census left, and is taken of it
-listed : (w : After-window-q) → Listed w.args.input.now w.count_runs-a.new.runs w.count_runs-a.new.counts w.window-q.result w.a-1.given.0.0
+listed : (w : After-window-q) → Listed w.args.input.now w.count_runs-a.new.runs w.count_runs-a.new.counts w.window-q.result w.in-Done.n
 listed w =
     let input = w.args.input.now in
-    census_done input _ _ w.count_runs-a.new.runs w.count_runs-a.new.counts w.count_runs-a.result w.count_runs-a.ensures w.a-1.given.1 (drive_bytes input (λ i h. omega (arith, w.shared_slice_known-1.given i))) w.requires.0.short w.window-q.result w.window-q.ensures
+    census_done input _ _ w.count_runs-a.new.runs w.count_runs-a.new.counts w.count_runs-a.result w.count_runs-a.ensures w.in-Done.is (drive_bytes input (λ i h. omega (arith, w.shared_slice_known-1.given i))) w.requires.0.short w.window-q.result w.window-q.ensures
 
 pub overflow_mul-end : goal.overflow_mul-end
-overflow_mul-end c = let t = listed c.before in omega (arith, t.small.1, mul-le-mul_right c.in-Done.n t.small.0)
+overflow_mul-end c = let t = listed (goal.at.overflow_mul-end c).After-window-q in omega (arith, t.small.1, mul-le-mul_right c.in-Done.n t.small.0)
 
 pub slice_bounds-put_report-end : goal.slice_bounds-put_report-end
-slice_bounds-put_report-end c = (listed c.before).runs_fit
+slice_bounds-put_report-end c = (listed (goal.at.slice_bounds-put_report-end c).After-window-q).runs_fit
 
 pub slice_bounds-put_report-end-2 : goal.slice_bounds-put_report-end-2
-slice_bounds-put_report-end-2 c = (listed c.before.before).counts_fit
+slice_bounds-put_report-end-2 c = (listed (goal.at.slice_bounds-put_report-end-2 c).After-window-q).counts_fit
 
 pub put_report-requires : goal.put_report-requires
 put_report-requires c =
-    ((listed c.before.before.before.before).tallied, omega (arith, (listed c.before.before.before.before).out_fits, c.requires.1))
+    ((listed (goal.at.put_report-requires c).After-window-q).tallied, omega (arith, (listed (goal.at.put_report-requires c).After-window-q).out_fits, c.requires.1))
 
-pub returns-in_default : goal.returns
-returns-in_default c =
-    let e = (listed c.before.before.before.before.before.before.before).output in
-    (c.put_report.ensures.value ∙ ap length e, c.put_report.ensures.out_after ∙ ap (λ (x : List ℕ). placed x c.args.out.now) e)
+pub returns : goal.returns
+returns c =
+    let e = (listed (goal.at.returns c).After-window-q).output in
+    record {
+      value = c.put_report.ensures.value ∙ ap length e;
+      out_after = c.put_report.ensures.out_after ∙ ap (λ (x : List ℕ). placed x c.args.out.now) e;
+    }

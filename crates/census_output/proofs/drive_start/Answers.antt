@@ -16,6 +16,6 @@ pub returns-then-input-eq0 : goal.returns-then-input-eq0
 unfolding census_drive
 returns-then-input-eq0 c = let input = c.args.input.now in (omega arith, nothing input (empty input c.if-input-eq0.true))
 
-pub returns-then-input-eq0 : goal.returns
+pub returns : goal.returns
 unfolding census_drive
-returns-then-input-eq0 c = (omega arith, refl)
+returns c = (omega arith, refl)

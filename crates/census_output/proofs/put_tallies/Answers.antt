@@ -12,13 +12,8 @@ use Rattle.lines.specs.Turns.{turns}
 use Rattle.lines.proofs.Turns.{turns_none, turns_spare, turns_stored, turns_all}
 use Rattle.census_output.specs.Reports.{tally, tallies}
 use Rattle.census_output.proofs.Tallying.{tally_within, tally_run, tally_most}
-use Rattle.census_output.proofs.put_tallies.Lts as lts
-use Rattle.census_output.proofs.put_tallies.Reads as reads
-use Rattle.census_output.proofs.put_tallies.Tie as tie
+use Rattle.census_output.proofs.put_tallies.Goals.{After-wide}
 use Rattle.census_output.proofs.put_tallies.Goals as goal
-
-abbrev After-wide : Type 0
-After-wide = lts.After-wide tie.the-claims reads.Pre reads.Post goal.the-invariant-loop-i goal.the-decreases-loop-i
 
 pub loop-i-init : goal.loop-i-init
 loop-i-init c =
@@ -74,19 +69,20 @@ line_at w =
 
 pub overflow_add-n : goal.overflow_add-n
 overflow_add-n c =
-    omega (arith, room t, c.put_tally-n.ensures.value ∙ ap length (line_at c.before.before.before.before.before), small t c.loop-i.i (omega (arith, c.loop-i-test.true)))
+    omega (arith, room t, c.put_tally-n.ensures.value ∙ ap length (line_at (goal.at.overflow_add-n c).After-wide), small t c.loop-i.i (omega (arith, c.loop-i-test.true)))
 
 pub loop-i-preserved : goal.loop-i-preserved
 loop-i-preserved c =
     let a = c.args in
-    let more = turns_stored (tally a.q a.runs.now a.counts.now) c.loop-i.i (line_at c.before.before.before.before.before) (omega (arith, room t, small t c.loop-i.i (omega (arith, c.loop-i-test.true)))) c.loop-i.invariant.2 c.put_tally-n.ensures.value c.put_tally-n.ensures.out_after in
+    let more = turns_stored (tally a.q a.runs.now a.counts.now) c.loop-i.i (line_at (goal.at.loop-i-preserved c).After-wide) (omega (arith, room t, small t c.loop-i.i (omega (arith, c.loop-i-test.true)))) c.loop-i.invariant.2 c.put_tally-n.ensures.value c.put_tally-n.ensures.out_after in
     (omega arith, more.0, more.1)
 
 pub returns : goal.returns
 unfolding tallies
 returns c =
     let a = c.args in
-    turns_all (tally a.q a.runs.now a.counts.now) c.loop-i.i (length a.counts.now) (omega arith) refl c.loop-i.invariant.2
+    let (first, second) = turns_all (tally a.q a.runs.now a.counts.now) c.loop-i.i (length a.counts.now) (omega arith) refl c.loop-i.invariant.2 in
+    record { value = first; out_after = second }
 
 pub shape_of-out : goal.shape_of-out
 shape_of-out c = c.loop-i.invariant.1

@@ -6,13 +6,8 @@ use lib.ListN.{length, drop}
 use borrow.Author.Rules.{rules}
 use Rattle.definitions.specs.Census.{total}
 use Rattle.census_output.proofs.Tallying.{total_none, total_more}
-use Rattle.census_output.proofs.sum.Lts as lts
-use Rattle.census_output.proofs.sum.Reads as reads
-use Rattle.census_output.proofs.sum.Tie as tie
+use Rattle.census_output.proofs.sum.Goals.{After-wide-s}
 use Rattle.census_output.proofs.sum.Goals as goal
-
-abbrev After-wide-s : Type 0
-After-wide-s = lts.After-wide tie.the-claims reads.Pre reads.Post goal.the-invariant-loop-i goal.the-decreases-loop-i
 
 pub loop-i-init : goal.loop-i-init
 loop-i-init c = let counts = c.args.counts.now in (omega arith, omega arith, total_none counts (length counts) refl)
@@ -24,12 +19,12 @@ word w =
 
 pub overflow_add-s : goal.overflow_add-s
 overflow_add-s c =
-    omega (arith, word c.before, c.loop-i.invariant.0, c.loop-i.invariant.1, c.requires)
+    omega (arith, word (goal.at.overflow_add-s c).After-wide-s, c.loop-i.invariant.0, c.loop-i.invariant.1, c.requires)
 
 pub loop-i-preserved : goal.loop-i-preserved
 loop-i-preserved c =
     let counts = c.args.counts.now in
-    (omega arith, omega (arith, word c.before, c.loop-i.invariant.0, c.loop-i.invariant.1), total_more counts c.loop-i.i (omega arith) (omega arith) c.wide-s.ensures c.loop-i.invariant.2)
+    (omega arith, omega (arith, word (goal.at.loop-i-preserved c).After-wide-s, c.loop-i.invariant.0, c.loop-i.invariant.1), total_more counts c.loop-i.i (omega arith) (omega arith) c.wide-s.ensures c.loop-i.invariant.2)
 
 pub returns : goal.returns
 returns c =

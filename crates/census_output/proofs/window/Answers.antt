@@ -15,6 +15,6 @@ returns-then-input-eq0 c = sym (ap (λ (l : List ℕ). get_or l 0 0) (empty c.ar
 pub overflow_cast-result : goal.overflow_cast-result
 overflow_cast-result c = record { fits = omega (arith, c.shared_slice_known-1.given 0) }
 
-pub returns-then-input-eq0 : goal.returns
+pub returns : goal.returns
 unfolding window_of
-returns-then-input-eq0 c = refl
+returns c = refl

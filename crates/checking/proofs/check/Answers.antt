@@ -7,13 +7,8 @@ use Rattle.definitions.specs.Services.{done, outcome_of, sample_order, table_che
 use Rattle.lists.specs.Decisions.{none}
 use Rattle.lists.specs.Serving.{answer_refuses, served}
 use Rattle.opening.proofs.Services.{opening_refused, Succeeded, opening_done, opening_served}
-use Rattle.checking.proofs.check.Lts as lts
-use Rattle.checking.proofs.check.Reads as reads
-use Rattle.checking.proofs.check.Tie as tie
+use Rattle.checking.proofs.check.Goals.{In-Done}
 use Rattle.checking.proofs.check.Goals as goal
-
-abbrev In-Done : Type 0
-In-Done = lts.After-enum_told tie.the-claims reads.Pre reads.Post
 
 pub returns-in_default : goal.returns-in_default
 unfolding check_service table_checks
@@ -22,13 +17,13 @@ returns-in_default c =
 
 -- the table is opened
 succeeded : (k : In-Done) → let a = k.args in
-    Succeeded sample_order a.table.now a.work.now k.admit-a.new.work k.enum_told-1.given.0.0
-succeeded k = opening_done k.admit-a.ensures k.enum_told-1.given.1
+    Succeeded sample_order a.table.now a.work.now k.admit-a.new.work k.in-Done.field-0
+succeeded k = opening_done k.admit-a.ensures k.in-Done.is
 
 pub clear_front-requires : goal.clear_front-requires
-clear_front-requires c = (succeeded c.before.before).loads.long
+clear_front-requires c = (succeeded (goal.at.clear_front-requires c).In-Done).loads.long
 
-pub returns-in_default : goal.returns
+pub returns : goal.returns
 unfolding check_service outcome_of table_checks
-returns-in_default c =
-    opening_served (succeeded c.before.before.before.before.before.before) refl c.clear_front.ensures (served none (ap (λ (n : ℕ). done n 0) c.rule_count.ensures) refl)
+returns c =
+    opening_served (succeeded (goal.at.returns c).In-Done) refl c.clear_front.ensures (served none (ap (λ (n : ℕ). done n 0) c.rule_count.ensures) refl)

@@ -10,16 +10,8 @@ use Rattle.definitions.specs.Services.{done, outcome_of, sample_order, profile_c
 use Rattle.lists.specs.Decisions.{answered, refused_some, done_all}
 use Rattle.lists.specs.Serving.{answer_refuses, refused_by, served}
 use Rattle.opening.proofs.Services.{ready, opening_refused, Succeeded, opening_done, opened_ready, opening_served}
-use Rattle.checking.proofs.check_profile.Lts as lts
-use Rattle.checking.proofs.check_profile.Reads as reads
-use Rattle.checking.proofs.check_profile.Tie as tie
+use Rattle.checking.proofs.check_profile.Goals.{After-profile_loaded-p, In-Done}
 use Rattle.checking.proofs.check_profile.Goals as goal
-
-abbrev In-Done-2 : Type 0
-In-Done-2 = lts.After-opened tie.the-claims reads.Pre reads.Post
-
-abbrev After-profile_loaded-p : Type 0
-After-profile_loaded-p = lts.After-profile_loaded tie.the-claims reads.Pre reads.Post
 
 pub returns-in_default : goal.returns-in_default
 unfolding check_profile_service
@@ -27,33 +19,33 @@ returns-in_default c =
     opening_refused _ c.admit-opened.ensures c.in_default.is (answer_refuses c.admit-opened.result) (λ d. refl)
 
 -- the table is opened
-succeeded : (k : In-Done-2) → let a = k.args in
-    Succeeded sample_order a.table.now a.work.now k.admit-opened.new.work k.opened-1.given.0.0
-succeeded k = opening_done k.admit-opened.ensures k.opened-1.given.1
+succeeded : (k : In-Done) → let a = k.args in
+    Succeeded sample_order a.table.now a.work.now k.admit-opened.new.work k.in-Done.rules
+succeeded k = opening_done k.admit-opened.ensures k.in-Done.is
 
 pub slice_bounds-profile_loaded-end : goal.slice_bounds-profile_loaded-end
-slice_bounds-profile_loaded-end c = omega (arith, (succeeded c.before.before).loads.long)
+slice_bounds-profile_loaded-end c = omega (arith, (succeeded (goal.at.slice_bounds-profile_loaded-end c).In-Done).loads.long)
 
 pub profile_loaded-p-requires : goal.profile_loaded-p-requires
-profile_loaded-p-requires c = opened_ready (succeeded c.before.before.before)
+profile_loaded-p-requires c = opened_ready (succeeded (goal.at.profile_loaded-p-requires c).In-Done)
 
 pub clear_front-requires : goal.clear_front-requires
-clear_front-requires c = (succeeded c.before.before.before.before.before).loads.long
+clear_front-requires c = (succeeded (goal.at.clear_front-requires c).In-Done).loads.long
 
 -- and its text judged
 judged : (q : After-profile_loaded-p) → let text = text_of sample_order q.args.table.now in
     q.profile_loaded-p.result ≡ answered (profile_checks true text) (length text)
 unfolding ready
-judged q = let x = succeeded q.before.before.before in q.profile_loaded-p.ensures (ready x.loads) refl x.rules
+judged q = let x = succeeded (up q).In-Done in q.profile_loaded-p.ensures (ready x.loads) refl x.rules
 
 pub returns-in_default-p : goal.returns-in_default-p
 unfolding check_profile_service profile_checks outcome_of
 returns-in_default-p c =
-    let (d, first, g) = refused_some _ _ (judged c.before.before.before.before.before.before.before) c.in_default-p.is in
-    opening_served (succeeded c.before.before.before.before.before.before.before.before.before.before) (refl, (refl, refl)) c.clear_front.ensures (refused_by d first (ap outcome_of g) refl)
+    let (d, first, g) = refused_some _ _ (judged (goal.at.returns-in_default-p c).After-profile_loaded-p) c.in_default-p.is in
+    opening_served (succeeded (goal.at.returns-in_default-p c).In-Done) (refl, (refl, refl)) c.clear_front.ensures (refused_by d first (ap outcome_of g) refl)
 
-pub returns-in_default : goal.returns
+pub returns : goal.returns
 unfolding check_profile_service profile_checks outcome_of
-returns-in_default c =
-    let all = (done_all _ _ (judged c.before.before.before.before.before.before.before.before) c.in-Done-p.is).0 in
-    opening_served (succeeded c.before.before.before.before.before.before.before.before.before.before.before) (refl, (refl, refl)) c.clear_front.ensures (served all (ap (λ (n : ℕ). done n 0) c.rule_count.ensures) refl)
+returns c =
+    let all = (done_all _ _ (judged (goal.at.returns c).After-profile_loaded-p) c.in-Done-p.is).0 in
+    opening_served (succeeded (goal.at.returns c).In-Done) (refl, (refl, refl)) c.clear_front.ensures (served all (ap (λ (n : ℕ). done n 0) c.rule_count.ensures) refl)

@@ -16,8 +16,8 @@ returns-then-k-eq1 c =
     let a = c.args in
     sym (right_ends a.s.now a.i a.j a.k (omega arith) (omega arith) (omega arith) c.if-k-eq1.true c.requires.3)
 
-pub returns-then-p-j : goal.returns
+pub returns : goal.returns
 unfolding part
-returns-then-p-j c =
+returns c =
     let a = c.args in
     c.smaller.ensures ∙ sym (firsts_agree a.s.now a.i a.j a.k (omega arith) (omega arith) (omega arith) c.requires.3)

@@ -17,8 +17,8 @@ loop-i-preserved c =
     let a = c.args in
     (omega arith, c.loop-i.invariant.1 ∙ agree a.x.now a.y.now c.loop-i.i (omega arith) (omega arith) c.if-a-b.false)
 
-pub returns-then-a-b : goal.returns
-returns-then-a-b c =
+pub returns : goal.returns
+returns c =
     let a = c.args in
     sym (c.loop-i.invariant.1 ∙ ended a.x.now a.y.now c.loop-i.i (omega arith))
 

@@ -23,7 +23,7 @@ returns-then-listed c =
     let a = c.args in
     subst (λ (b : Bool). Appended (cond b (a.cut ∷ []) []) a.n (a.n + 1) a.cuts.now (set a.cuts.now a.n a.cut)) (sym c.if-listed.true) (appended_one a.n a.cut a.cuts.now)
 
-pub returns-then-listed : goal.returns
-returns-then-listed c =
+pub returns : goal.returns
+returns c =
     let a = c.args in
     subst (λ (b : Bool). Appended (cond b (a.cut ∷ []) []) a.n a.n a.cuts.now a.cuts.now) (sym c.if-listed.false) (appended_none a.n a.cuts.now)

@@ -37,14 +37,14 @@ append-requires c =
       omega (
         arith,
         c.requires.0,
-        c.put.auto.0,
+        c.put.auto.s,
         ap length (run_cuts_ended r.start r.back r.end r.next a.m c.if-run-m.false c.is_last_listed.result c.is_last_listed.ensures),
       ),
       c.requires.2,
     )
 
-pub returns-then-run-m : goal.returns
-returns-then-run-m c =
+pub returns : goal.returns
+returns c =
     let a = c.args in
     let r = a.run in
     let b = c.is_last_listed.result in

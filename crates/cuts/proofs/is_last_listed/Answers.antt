@@ -5,5 +5,5 @@ use Rattle.cuts.proofs.is_last_listed.Goals as goal
 pub returns-then-run : goal.returns-then-run
 returns-then-run c = simp (lt-ltb _ _ c.if-run.true)
 
-pub returns-then-run : goal.returns
-returns-then-run c = simp (le-ltb _ _ c.if-run.false)
+pub returns : goal.returns
+returns c = simp (le-ltb _ _ c.if-run.false)

@@ -17,6 +17,6 @@ pub loop-n-preserved : goal.loop-n-preserved
 loop-n-preserved c =
     (omega arith, omega (arith, c.loop-n.invariant.1, count_more c.loop-n.n c.loop-n.rest (omega arith) (omega arith)))
 
-pub returns-then-rest-lt10 : goal.returns
-returns-then-rest-lt10 c =
+pub returns : goal.returns
+returns c =
     omega (arith, c.loop-n.invariant.1, count_ends c.loop-n.n c.loop-n.rest (omega arith))

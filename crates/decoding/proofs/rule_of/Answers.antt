@@ -6,7 +6,7 @@ use Rattle.decoding.proofs.rule_of.Goals as goal
 pub returns-then-x-lt-KIND : goal.returns-then-x-lt-KIND
 returns-then-x-lt-KIND c = let a = c.args in read_symbol a.words.now a.r c.if-x-lt-KIND.true
 
-pub returns-then-x-lt-KIND : goal.returns
-returns-then-x-lt-KIND c =
+pub returns : goal.returns
+returns c =
     let a = c.args in
     read_pair a.words.now a.r c.wide.result c.wide-2.result c.if-x-lt-KIND.false c.wide.ensures c.wide-2.ensures

@@ -11,13 +11,8 @@ use Rattle.lyndon.specs.Shapes.{Shaped, stored_shaped}
 use Rattle.lyndon.specs.Stored.{table_length_lem, rule_range, table_chair}
 use Rattle.layout.specs.Layout.{TABLE}
 use Rattle.state.specs.State.{Ready, rules_loaded}
-use Rattle.delivery.proofs.chair_loaded.Lts as lts
-use Rattle.delivery.proofs.chair_loaded.Reads as reads
-use Rattle.delivery.proofs.chair_loaded.Tie as tie
+use Rattle.delivery.proofs.chair_loaded.Goals.{Start}
 use Rattle.delivery.proofs.chair_loaded.Goals as goal
-
-abbrev Start : Type 0
-Start = lts.Start tie.the-claims reads.Pre reads.Post
 
 -- the rules in the table area are the table
 loaded_table : (w : List ℕ) (h : Ready w) (n : ℕ) → n ≡ rules_loaded h → take (TABLE + 2 * n - TABLE) (drop TABLE w) ≡ table_of h.order h.text h.chair
@@ -39,10 +34,10 @@ returns c h e =
     c.chair_of.ensures ∙ ap chair_of (loaded_table a.work.now h a.rules e) ∙ table_chair h.order h.text h.chair h.loaded.kept.stored
 
 pub overflow_mul-end : goal.overflow_mul-end
-overflow_mul-end c = omega (arith, most c.before.before)
+overflow_mul-end c = omega (arith, most (goal.at.overflow_mul-end c).Start)
 
 pub overflow_add-end : goal.overflow_add-end
-overflow_add-end c = omega (arith, most c.before.before)
+overflow_add-end c = omega (arith, most (goal.at.overflow_add-end c).Start)
 
 pub slice_bounds-chair_of-end : goal.slice_bounds-chair_of-end
-slice_bounds-chair_of-end c = omega (arith, most c.before.before, c.requires.0.loaded.kept.long)
+slice_bounds-chair_of-end c = omega (arith, most (goal.at.slice_bounds-chair_of-end c).Start, c.requires.0.loaded.kept.long)

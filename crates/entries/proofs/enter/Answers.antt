@@ -16,8 +16,8 @@ returns-then-q-e c =
     let a = c.args in
     (sym (after_old a.e a.q c.if-q-e.true), sym (entered_old a.work.now a.e a.q a.place c.if-q-e.true))
 
-pub returns-then-q-e : goal.returns
-returns-then-q-e c =
+pub returns : goal.returns
+returns c =
     let a = c.args in
     let h : a.e ≤ a.q = omega (arith, c.if-q-e.false) in (
       add-one a.q ∙ sym (after_new a.e a.q h),

@@ -20,18 +20,18 @@ enter_halves-requires c =
     (subst (λ (n : ℕ). Entered c.args.table.now n c.loop-r.work) one c.loop-r.invariant.2, omega (arith, c.loop-r.invariant.0))
 
 pub shape_of-work-then-not-enter_halves : goal.shape_of-work-then-not-enter_halves
-shape_of-work-then-not-enter_halves c = c.enter_halves.auto.1.0 ∙ c.loop-r.invariant.1
+shape_of-work-then-not-enter_halves c = c.enter_halves.auto.work ∙ c.loop-r.invariant.1
 
 pub returns-then-not-enter_halves : goal.returns-then-not-enter_halves
 returns-then-not-enter_halves c =
-    (λ e. contra e refl, λ e. c.enter_halves.ensures.1 (not-true c.enter_halves.result c.if-not-enter_halves.true-raw))
+    (λ e. contra e refl, λ e. c.enter_halves.ensures.1 (c.if-not-enter_halves.true))
 
 pub loop-r-preserved : goal.loop-r-preserved
 loop-r-preserved c =
-    (omega (arith, c.loop-r.invariant.0), c.enter_halves.auto.1.0 ∙ c.loop-r.invariant.1, c.enter_halves.ensures.0 (not-false c.enter_halves.result c.if-not-enter_halves.false-raw))
+    (omega (arith, c.loop-r.invariant.0), c.enter_halves.auto.work ∙ c.loop-r.invariant.1, c.enter_halves.ensures.0 (c.if-not-enter_halves.false))
 
-pub returns-then-not-enter_halves : goal.returns
-returns-then-not-enter_halves c =
+pub returns : goal.returns
+returns c =
     let z : c.loop-r.r ≡ 0 = omega (arith, c.loop-r-test.false) in
     (λ e. all_placed (subst (λ (n : ℕ). Entered c.args.table.now n c.loop-r.work) z c.loop-r.invariant.2), λ e. contra refl e)
 

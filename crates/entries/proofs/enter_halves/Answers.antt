@@ -11,16 +11,8 @@ use Rattle.decoding.proofs.Rules.{symbol_read, pair_read}
 use Rattle.lengths.proofs.Sizes.{rules_few}
 use Rattle.entries.specs.Entries.{entered}
 use Rattle.entries.proofs.Steps.{entry_low, symbol_judged, pair_room, after_room, pair_judged}
-use Rattle.entries.proofs.enter_halves.Lts as lts
-use Rattle.entries.proofs.enter_halves.Reads as reads
-use Rattle.entries.proofs.enter_halves.Tie as tie
+use Rattle.entries.proofs.enter_halves.Goals.{After-enter-d, In-Pair}
 use Rattle.entries.proofs.enter_halves.Goals as goal
-
-abbrev In-Pair-2 : Type 0
-In-Pair-2 = lts.After-rule tie.the-claims reads.Pre reads.Post
-
-abbrev After-enter-d : Type 0
-After-enter-d = lts.After-enter tie.the-claims reads.Pre reads.Post
 
 pub rule_of-rule-requires : goal.rule_of-rule-requires
 rule_of-rule-requires c = omega (arith, c.requires.1, c.requires.0.sized.lent.shaped.even)
@@ -36,35 +28,34 @@ returns-in-Symbol c =
     (λ t. met-so (same ∙ t), λ t. met-not (same ∙ t))
 
 -- the rule is a pair
-is_pair_lem : (c : In-Pair-2) → PairOf c.args.table.now c.args.r c.rule-1.given.0.0 c.rule-1.given.0.1.0
+is_pair_lem : (c : In-Pair) → PairOf c.args.table.now c.args.r c.in-Pair.left c.in-Pair.right
 is_pair_lem c =
-    let (q, f) = c.rule-1.given in
-    pair_read c.args.table.now c.args.r c.requires.0.sized.lent.shaped c.requires.1 q.0 q.1.0 (sym c.rule_of-rule.ensures ∙ f)
+    pair_read c.args.table.now c.args.r c.requires.0.sized.lent.shaped c.requires.1 c.in-Pair.left c.in-Pair.right (sym c.rule_of-rule.ensures ∙ c.in-Pair.is)
 
-room : (c : In-Pair-2) → let w = c.args.work.now in
-    (c.rule-1.given.0.0 < c.args.r) × (c.rule-1.given.0.1.0 < c.args.r) × (c.args.r < 2304) × (place_in w c.args.r + length_in w c.rule-1.given.0.0 ≤ 2048)
+room : (c : In-Pair) → let w = c.args.work.now in
+    (c.in-Pair.left < c.args.r) × (c.in-Pair.right < c.args.r) × (c.args.r < 2304) × (place_in w c.args.r + length_in w c.in-Pair.left ≤ 2048)
 room c =
-    pair_room c.requires.0 c.requires.1 c.rule-1.given.0.0 c.rule-1.given.0.1.0 (is_pair_lem c)
+    pair_room c.requires.0 c.requires.1 c.in-Pair.left c.in-Pair.right (is_pair_lem c)
 
 pub bounds-work-left : goal.bounds-work-left
-bounds-work-left c = omega (arith, room c.before.before.before.before, c.requires.0.sized.lent.long)
+bounds-work-left c = omega (arith, room (goal.at.bounds-work-left c).In-Pair, c.requires.0.sized.lent.long)
 
 pub enter-d-requires : goal.enter-d-requires
 enter-d-requires c =
-    (omega (arith, room c.before.before.before.before.before), omega (arith, room c.before.before.before.before.before, c.wide-e.ensures, entry_low c.requires.0 c.requires.1), c.requires.0.sized.lent.long)
+    (omega (arith, room (goal.at.enter-d-requires c).In-Pair), omega (arith, room (goal.at.enter-d-requires c).In-Pair, c.wide-e.ensures, entry_low c.requires.0 c.requires.1), c.requires.0.sized.lent.long)
 
 -- what is met once the left half is
 met : (c : After-enter-d) → let e = entry_in c.args.work.now c.args.r in
-    (c.enter-d.result ≡ after e c.rule-1.given.0.0) × (c.enter-d.new.work ≡ entered c.args.work.now e c.rule-1.given.0.0 (place_in c.args.work.now c.args.r))
+    (c.enter-d.result ≡ after e c.in-Pair.left) × (c.enter-d.new.work ≡ entered c.args.work.now e c.in-Pair.left (place_in c.args.work.now c.args.r))
 met c =
-    let u = c.rule-1.given.0.0 in
+    let u = c.in-Pair.left in
     let place = place_in c.args.work.now c.args.r in
     (c.enter-d.ensures.0 ∙ ap (λ (n : ℕ). after n u) c.wide-e.ensures, c.enter-d.ensures.1 ∙ ap (λ (n : ℕ). entered c.args.work.now n u place) c.wide-e.ensures)
 
-pub enter-d-requires : goal.enter-requires
-enter-d-requires c =
-    let low = after_room c.requires.0 c.requires.1 c.in-Pair.left c.in-Pair.right (is_pair_lem c.before.before.before.before.before.before.before.before.before) in
-    (omega (arith, room c.before.before.before.before.before.before.before.before.before), omega (arith, room c.before.before.before.before.before.before.before.before.before, (met c.before.before.before.before).0, low.0), omega (arith, c.enter-d.auto.0, c.requires.0.sized.lent.long))
+pub enter-requires : goal.enter-requires
+enter-requires c =
+    let low = after_room c.requires.0 c.requires.1 c.in-Pair.left c.in-Pair.right (is_pair_lem (goal.at.enter-requires c).In-Pair) in
+    (omega (arith, room (goal.at.enter-requires c).In-Pair), omega (arith, room (goal.at.enter-requires c).In-Pair, (met (goal.at.enter-requires c).After-enter-d).0, low.0), omega (arith, c.enter-d.auto.work, c.requires.0.sized.lent.long))
 
 pub returns-in-Pair : goal.returns-in-Pair
 returns-in-Pair c =
@@ -73,8 +64,8 @@ returns-in-Pair c =
     let v = c.in-Pair.right in
     let d = after (entry_in w c.args.r) u in
     let behind = place_in w c.args.r + length_in w u in
-    let (met-so, met-not) = pair_judged c.requires.0 c.requires.1 u v (is_pair_lem c.before.before.before.before.before.before.before.before.before.before.before.before) c.enter-d.new.work c.enter.new.work (met c.before.before.before.before.before.before.before).1 (c.enter.ensures.1 ∙ ap (λ (n : ℕ). entered c.enter-d.new.work n v behind) (met c.before.before.before.before.before.before.before).0) in
-    let same : eqb (after d v) c.args.r ≡ eqb c.enter.result c.args.r = ap (λ (n : ℕ). eqb n c.args.r) (sym (c.enter.ensures.0 ∙ ap (λ (n : ℕ). after n v) (met c.before.before.before.before.before.before.before).0)) in
+    let (met-so, met-not) = pair_judged c.requires.0 c.requires.1 u v (is_pair_lem (goal.at.returns-in-Pair c).In-Pair) c.enter-d.new.work c.enter.new.work (met (goal.at.returns-in-Pair c).After-enter-d).1 (c.enter.ensures.1 ∙ ap (λ (n : ℕ). entered c.enter-d.new.work n v behind) (met (goal.at.returns-in-Pair c).After-enter-d).0) in
+    let same : eqb (after d v) c.args.r ≡ eqb c.enter.result c.args.r = ap (λ (n : ℕ). eqb n c.args.r) (sym (c.enter.ensures.0 ∙ ap (λ (n : ℕ). after n v) (met (goal.at.returns-in-Pair c).After-enter-d).0)) in
     (λ t. met-so (same ∙ t), λ t. met-not (same ∙ t))
 
 pub overflow_add-r : goal.overflow_add-r
@@ -84,19 +75,19 @@ pub offset_bounds-work-r : goal.offset_bounds-work-r
 offset_bounds-work-r c = let few = rules_few c.requires.0.sized.lent in omega (arith, c.requires.1)
 
 pub overflow_add-start : goal.overflow_add-start
-overflow_add-start c = omega (arith, room c.before.before)
+overflow_add-start c = omega (arith, room (goal.at.overflow_add-start c).In-Pair)
 
 pub offset_bounds-work-r-in-Pair : goal.offset_bounds-work-r-in-Pair
-offset_bounds-work-r-in-Pair c = omega (arith, room c.before.before)
+offset_bounds-work-r-in-Pair c = omega (arith, room (goal.at.offset_bounds-work-r-in-Pair c).In-Pair)
 
 pub bounds-work-r-in-Pair : goal.bounds-work-r-in-Pair
-bounds-work-r-in-Pair c = omega (arith, room c.before.before.before, c.requires.0.sized.lent.long)
+bounds-work-r-in-Pair c = omega (arith, room (goal.at.bounds-work-r-in-Pair c).In-Pair, c.requires.0.sized.lent.long)
 
 pub overflow_add-behind : goal.overflow_add-behind
-overflow_add-behind c = omega (arith, room c.before.before.before)
+overflow_add-behind c = omega (arith, room (goal.at.overflow_add-behind c).In-Pair)
 
 pub offset_bounds-work-left : goal.offset_bounds-work-left
-offset_bounds-work-left c = omega (arith, room c.before.before.before)
+offset_bounds-work-left c = omega (arith, room (goal.at.offset_bounds-work-left c).In-Pair)
 
 pub overflow_add-behind-in-Pair : goal.overflow_add-behind-in-Pair
-overflow_add-behind-in-Pair c = omega (arith, room c.before.before.before.before)
+overflow_add-behind-in-Pair c = omega (arith, room (goal.at.overflow_add-behind-in-Pair c).In-Pair)

@@ -7,13 +7,8 @@ use borrow.Author.Rules.{rules}
 use Rattle.expansion.specs.declared.Turn.TheVariants.{Next}
 use Rattle.expansion.specs.Expansion.{Expanding, Stepped}
 use Rattle.expansion.proofs.Walking.{walk_start, walk_long}
-use Rattle.expansion.proofs.expand.Lts as lts
-use Rattle.expansion.proofs.expand.Reads as reads
-use Rattle.expansion.proofs.expand.Tie as tie
+use Rattle.expansion.proofs.expand.Goals.{In-Next}
 use Rattle.expansion.proofs.expand.Goals as goal
-
-abbrev In-Next-2 : Type 0
-In-Next-2 = lts.After-t tie.the-claims reads.Pre reads.Post goal.the-invariant-loop-p goal.the-decreases-loop-p
 
 pub loop-p-init : goal.loop-p-init
 loop-p-init c =
@@ -31,28 +26,28 @@ expand_rule-t-requires c =
     }
 
 -- the walk has gone on
-gone_on : (c : In-Next-2) → let a = c.args in
-    Stepped a.order a.table.now c.expand_rule-t.new.work c.loop-p.p.written c.loop-p.p.pending (Next c.t-1.given.0.0)
+gone_on : (c : In-Next) → let a = c.args in
+    Stepped a.order a.table.now c.expand_rule-t.new.work c.loop-p.p.written c.loop-p.p.pending (Next c.in-Next.q)
 gone_on c =
     let a = c.args in
-    subst (Stepped a.order a.table.now c.expand_rule-t.new.work c.loop-p.p.written c.loop-p.p.pending) c.t-1.given.1 c.expand_rule-t.ensures
+    subst (Stepped a.order a.table.now c.expand_rule-t.new.work c.loop-p.p.written c.loop-p.p.pending) c.in-Next.is c.expand_rule-t.ensures
 
 pub loop-p-preserved : goal.loop-p-preserved
 loop-p-preserved c =
-    let (next, nearer, room) = gone_on c.before.before in
-    (c.expand_rule-t.auto.1.1.0 ∙ c.loop-p.invariant.0, room, next)
+    let (next, nearer, room) = gone_on (goal.at.loop-p-preserved c).In-Next in
+    (c.expand_rule-t.auto.work ∙ c.loop-p.invariant.0, room, next)
 
 pub shape_of-work-in-Whole : goal.shape_of-work-in-Whole
 shape_of-work-in-Whole c =
-    c.expand_rule-t.auto.1.1.0 ∙ c.loop-p.invariant.0
+    c.expand_rule-t.auto.work ∙ c.loop-p.invariant.0
 
 pub returns-in-Whole : goal.returns-in-Whole
 returns-in-Whole c =
     let a = c.args in
     subst (Stepped a.order a.table.now c.expand_rule-t.new.work c.loop-p.p.written c.loop-p.p.pending) c.in-Whole.is c.expand_rule-t.ensures
 
-pub returns-in-Whole : goal.returns
-returns-in-Whole c =
+pub returns : goal.returns
+returns c =
     let a = c.args in
     walk_long a.order a.table.now c.loop-p.work c.loop-p.p.rule c.loop-p.p.written c.loop-p.p.pending c.requires.0 (omega (arith, c.requires.2, c.loop-p.invariant.0)) (omega (arith, c.loop-p.invariant.1, c.loop-p-test.false)) c.loop-p.invariant.2
 
@@ -63,7 +58,7 @@ pub overflow_add-p : goal.overflow_add-p
 overflow_add-p c = omega (arith, c.loop-p.invariant.1)
 
 pub loop-p-smaller : goal.loop-p-smaller
-loop-p-smaller c = omega (arith, (gone_on c.before.before).1, (gone_on c.before.before).2)
+loop-p-smaller c = omega (arith, (gone_on (goal.at.loop-p-smaller c).In-Next).1, (gone_on (goal.at.loop-p-smaller c).In-Next).2)
 
 pub shape_of-work : goal.shape_of-work
 shape_of-work c = c.loop-p.invariant.0

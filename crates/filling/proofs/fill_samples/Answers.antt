@@ -20,23 +20,23 @@ fill_rule-requires c =
     (c.loop-r.invariant.4, low, c.requires.1.samples c.loop-r.r c.loop-r.invariant.0 low)
 
 pub shape_of-work-then-not-fill_rule : goal.shape_of-work-then-not-fill_rule
-shape_of-work-then-not-fill_rule c = c.fill_rule.auto.1.1.0 ∙ c.loop-r.invariant.3
+shape_of-work-then-not-fill_rule c = c.fill_rule.auto.work ∙ c.loop-r.invariant.3
 
 pub returns-then-not-fill_rule : goal.returns-then-not-fill_rule
 returns-then-not-fill_rule c =
-    (λ e. contra e refl, λ e. c.fill_rule.ensures.1 (not-true c.fill_rule.result c.if-not-fill_rule.true-raw))
+    (λ e. contra e refl, λ e. c.fill_rule.ensures.1 (c.if-not-fill_rule.true))
 
 pub loop-r-preserved : goal.loop-r-preserved
 loop-r-preserved c = (
   omega arith,
   omega (arith, c.loop-r-test.true),
   c.loop-r.invariant.2,
-  c.fill_rule.auto.1.1.0 ∙ c.loop-r.invariant.3,
-  c.fill_rule.ensures.0 (not-false c.fill_rule.result c.if-not-fill_rule.false-raw),
+  c.fill_rule.auto.work ∙ c.loop-r.invariant.3,
+  c.fill_rule.ensures.0 (c.if-not-fill_rule.false),
 )
 
-pub returns-then-not-fill_rule : goal.returns
-returns-then-not-fill_rule c =
+pub returns : goal.returns
+returns c =
     let a = c.args in
     let z : c.loop-r.r ≡ rule_count a.table.now = omega (arith, c.loop-r.invariant.2, c.loop-r.invariant.1, c.loop-r-test.false) in
     (λ e. subst (λ (n : ℕ). Filling a.order a.table.now n c.loop-r.work) z c.loop-r.invariant.4, λ e. contra refl e)

@@ -8,13 +8,8 @@ use borrow.Author.Rules.{rules}
 use Rattle.layout.specs.Layout.{length_in, place_in}
 use Rattle.filling.specs.Filling.{copied}
 use Rattle.filling.proofs.Copies.{copied_same, copied_one, copied_first}
-use Rattle.filling.proofs.write_rule.Lts as lts
-use Rattle.filling.proofs.write_rule.Reads as reads
-use Rattle.filling.proofs.write_rule.Tie as tie
+use Rattle.filling.proofs.write_rule.Goals.{After-put}
 use Rattle.filling.proofs.write_rule.Goals as goal
-
-abbrev After-put : Type 0
-After-put = lts.After-put tie.the-claims reads.Pre reads.Post
 
 pub returns-then-from-to : goal.returns-then-from-to
 returns-then-from-to c =
@@ -35,14 +30,14 @@ returns-then-n-eq1 c =
     let a = c.args in
     let from = place_in a.work.now a.q in
     let one : 1 ≡ length_in a.work.now a.q = sym c.if-n-eq1.true ∙ c.wide-n.ensures in
-    first_copied c.before.before.before.before ∙ copied_one a.work.now from a.to ∙ ap (copied a.work.now from a.to) one
+    first_copied (goal.at.returns-then-n-eq1 c).After-put ∙ copied_one a.work.now from a.to ∙ ap (copied a.work.now from a.to) one
 
-pub returns-then-from-to : goal.returns
-returns-then-from-to c =
+pub returns : goal.returns
+returns c =
     let a = c.args in
     let from = place_in a.work.now a.q in
     let size : suc (c.wide-n.result - 1) ≡ length_in a.work.now a.q = omega (arith, c.wide-n.ensures, c.requires.filled) in
     c.copy_within.ensures
-    ∙ ap₂ {C = List ℕ} (λ x i. copied x (i + 1) (a.to + 1) (c.wide-n.result - 1)) (first_copied c.before.before.before.before.before.before.before.before) c.wide-from.ensures
+    ∙ ap₂ {C = List ℕ} (λ x i. copied x (i + 1) (a.to + 1) (c.wide-n.result - 1)) (first_copied (goal.at.returns c).After-put) c.wide-from.ensures
     ∙ copied_first a.work.now from a.to (c.wide-n.result - 1)
     ∙ ap (copied a.work.now from a.to) size

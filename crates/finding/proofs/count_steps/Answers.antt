@@ -9,16 +9,8 @@ use Rattle.definitions.specs.declared.Content.TheVariants.{Steps}
 use Rattle.definitions.specs.Steps.{steps_of, searched}
 use Rattle.lyndon.specs.Steps.{two_samples, steps_size}
 use Rattle.finding.proofs.Counting.{loaded_starts, loaded_count, steps_behind}
-use Rattle.finding.proofs.count_steps.Lts as lts
-use Rattle.finding.proofs.count_steps.Reads as reads
-use Rattle.finding.proofs.count_steps.Tie as tie
+use Rattle.finding.proofs.count_steps.Goals.{After-rearrange, Start}
 use Rattle.finding.proofs.count_steps.Goals as goal
-
-abbrev Start : Type 0
-Start = lts.Start tie.the-claims reads.Pre reads.Post
-
-abbrev After-rearrange : Type 0
-After-rearrange = lts.After-rearrange tie.the-claims reads.Pre reads.Post
 
 -- the pattern has a step
 long : (s : Start) → 2 ≤ length s.args.pattern.now
@@ -36,8 +28,8 @@ unfolding searched
 count-requires c =
     let p = c.args.pattern.now in (
       loaded_starts c.requires,
-      subst (λ (l : List ℕ). 0 < length l) (sym (behind c.before.before.before.before)) c.requires.filled,
-      subst (λ (l : List ℕ). length l ≤ 2047) (sym (behind c.before.before.before.before)) (omega (arith, steps_size p, c.requires.short)),
+      subst (λ (l : List ℕ). 0 < length l) (sym (behind (goal.at.count-requires c).After-rearrange)) c.requires.filled,
+      subst (λ (l : List ℕ). length l ≤ 2047) (sym (behind (goal.at.count-requires c).After-rearrange)) (omega (arith, steps_size p, c.requires.short)),
       omega arith,
     )
 
@@ -46,16 +38,16 @@ unfolding searched
 returns c h e size =
     let a = c.args in
     let p = a.pattern.now in
-    loaded_count Steps p a.work.now a.rules h c.requires.filled e size _ c.count.new.work 1 c.count.result (behind c.before.before.before.before.before.before.before) refl c.count.ensures
+    loaded_count Steps p a.work.now a.rules h c.requires.filled e size _ c.count.new.work 1 c.count.result (behind (goal.at.returns c).After-rearrange) refl c.count.ensures
 
 pub rearrange-requires : goal.rearrange-requires
 rearrange-requires c = omega (arith, c.requires.short)
 
 pub slice_bounds-count-count : goal.slice_bounds-count-count
-slice_bounds-count-count c = omega (arith, long c.before.before.before.before.before.before)
+slice_bounds-count-count c = omega (arith, long (goal.at.slice_bounds-count-count c).Start)
 
 pub slice_bounds-count-start : goal.slice_bounds-count-start
-slice_bounds-count-start c = omega (arith, long c.before.before.before.before.before.before)
+slice_bounds-count-start c = omega (arith, long (goal.at.slice_bounds-count-start c).Start)
 
 pub slice_bounds-count-end : goal.slice_bounds-count-end
 slice_bounds-count-end c = omega (arith, c.requires.short)

@@ -11,16 +11,8 @@ use Rattle.definitions.specs.Occurrences.{pattern_cuts}
 use Rattle.definitions.specs.Services.{sample_order}
 use Rattle.cuts.proofs.Lists.{most_cuts, eleven}
 use Rattle.results.proofs.Writing.{list_refused, list_fits, list_written}
-use Rattle.finding.proofs.deliver_cuts.Lts as lts
-use Rattle.finding.proofs.deliver_cuts.Reads as reads
-use Rattle.finding.proofs.deliver_cuts.Tie as tie
+use Rattle.finding.proofs.deliver_cuts.Goals.{After-floor_log2-k, After-list-n}
 use Rattle.finding.proofs.deliver_cuts.Goals as goal
-
-abbrev After-floor_log2-k : Type 0
-After-floor_log2-k = lts.After-floor_log2 tie.the-claims reads.Pre reads.Post
-
-abbrev After-list-n : Type 0
-After-list-n = lts.After-list2 tie.the-claims reads.Pre reads.Post
 
 -- the list has at most 11 words, and the cuts fit
 few : (c : After-floor_log2-k) → c.floor_log2-k.result + 1 ≤ 11
@@ -31,12 +23,12 @@ most : (c : After-floor_log2-k) → length (pattern_cuts sample_order c.args.pat
 most c = most_cuts sample_order c.args.pattern.now c.floor_log2-k.result c.floor_log2-k.ensures
 
 pub list-n-requires : goal.list-n-requires
-list-n-requires c = (simp length-take (omega (arith, few c.before.before, most c.before.before)), c.requires.1)
+list-n-requires c = (simp length-take (omega (arith, few (goal.at.list-n-requires c).After-floor_log2-k, most (goal.at.list-n-requires c).After-floor_log2-k)), c.requires.1)
 
 pub returns-in_default : goal.returns-in_default
 returns-in_default c =
     let a = c.args in
-    list_refused (pattern_cuts sample_order a.pattern.now) a.result.now c.list-n.result c.list-n.ensures.0 c.result_fits-a.result c.result_fits-a.ensures c.in_default.is
+    list_refused (pattern_cuts sample_order a.pattern.now) a.res.now c.list-n.result c.list-n.ensures.0 c.result_fits-a.result c.result_fits-a.ensures c.in_default.is
 
 -- the list, with what stands behind it
 abbrev zeros : List ℕ
@@ -68,17 +60,17 @@ copied c =
 pub copy-requires : goal.copy-requires
 copy-requires c =
     let a = c.args in
-    subst (λ (x : List ℕ). length x ≤ length a.result.now) (sym (copied c.before.before.before.before.before.before.before))
-    (list_fits (pattern_cuts sample_order a.pattern.now) a.result.now c.list-n.result c.list-n.ensures.0 c.result_fits-a.result c.result_fits-a.ensures c.in-Done.is)
+    subst (λ (x : List ℕ). length x ≤ length a.res.now) (sym (copied (goal.at.copy-requires c).After-list-n))
+    (list_fits (pattern_cuts sample_order a.pattern.now) a.res.now c.list-n.result c.list-n.ensures.0 c.result_fits-a.result c.result_fits-a.ensures c.in-Done.is)
 
-pub returns-in_default : goal.returns
-returns-in_default c =
+pub returns : goal.returns
+returns c =
     let a = c.args in
-    list_written (pattern_cuts sample_order a.pattern.now) a.result.now c.list-n.result c.list-n.ensures.0 c.result_fits-a.result c.result_fits-a.ensures c.copy.new.to c.in-Done.is
-    (c.copy.ensures ∙ ap (λ (x : List ℕ). placed x a.result.now) (copied c.before.before.before.before.before.before.before.before.before.before))
+    list_written (pattern_cuts sample_order a.pattern.now) a.res.now c.list-n.result c.list-n.ensures.0 c.result_fits-a.result c.result_fits-a.ensures c.copy.new.to c.in-Done.is
+    (c.copy.ensures ∙ ap (λ (x : List ℕ). placed x a.res.now) (copied (goal.at.returns c).After-list-n))
 
 pub overflow_add-k : goal.overflow_add-k
-overflow_add-k c = omega (arith, few c.before)
+overflow_add-k c = omega (arith, few (goal.at.overflow_add-k c).After-floor_log2-k)
 
 pub slice_bounds-list-end : goal.slice_bounds-list-end
-slice_bounds-list-end c = omega (arith, few c.before)
+slice_bounds-list-end c = omega (arith, few (goal.at.slice_bounds-list-end c).After-floor_log2-k)

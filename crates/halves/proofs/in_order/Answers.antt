@@ -14,16 +14,8 @@ use Rattle.layout.specs.Layout.{length_in}
 use Rattle.decoding.proofs.Rules.{symbol_read, pair_read}
 use Rattle.halves.specs.Halves.{front, Written}
 use Rattle.halves.proofs.Orders.{order_room, middle_room, halves_test, right_test, not_less, left_symbol, left_pair, left_same}
-use Rattle.halves.proofs.in_order.Lts as lts
-use Rattle.halves.proofs.in_order.Reads as reads
-use Rattle.halves.proofs.in_order.Tie as tie
+use Rattle.halves.proofs.in_order.Goals.{After-rule_of-rule, In-Pair}
 use Rattle.halves.proofs.in_order.Goals as goal
-
-abbrev After-rule_of-rule : Type 0
-After-rule_of-rule = lts.After-rule_of tie.the-claims reads.Pre reads.Post
-
-abbrev In-Pair-2 : Type 0
-In-Pair-2 = lts.After-rule tie.the-claims reads.Pre reads.Post
 
 pub is_smaller-requires : goal.is_smaller-requires
 is_smaller-requires c =
@@ -32,13 +24,13 @@ is_smaller-requires c =
 
 pub returns-then-not-is_smaller : goal.returns-then-not-is_smaller
 returns-then-not-is_smaller c =
-    λ k. not_less k (sym (halves_test k c.is_smaller.result c.wide-n.result c.wide-n.ensures c.is_smaller.ensures) ∙ not-true c.is_smaller.result c.if-not-is_smaller.taken)
+    λ k. not_less k (sym (halves_test k c.is_smaller.result c.wide-n.result c.wide-n.ensures c.is_smaller.ensures) ∙ c.if-not-is_smaller.true)
 
 -- the left half is smaller than the right
 is_less : (c : After-rule_of-rule) → (k : Written c.args.table.now c.args.work.now c.args.left c.args.right c.args.start c.args.behind)
     → lexlt (rule_string k.order c.args.table.now c.args.left) (rule_string k.order c.args.table.now c.args.right) ≡ true
 is_less c =
-    λ k. sym (halves_test k c.is_smaller.result c.wide-n.result c.wide-n.ensures c.is_smaller.ensures) ∙ not-false c.is_smaller.result c.if-not-is_smaller.left
+    λ k. sym (halves_test k c.is_smaller.result c.wide-n.result c.wide-n.ensures c.is_smaller.ensures) ∙ c.if-not-is_smaller.false
 
 -- the left half is a rule
 left_low : {t w : List ℕ} {left right start behind : ℕ} → (k : Written t w left right start behind) → left < rule_count t
@@ -48,36 +40,35 @@ pub rule_of-rule-requires : goal.rule_of-rule-requires
 rule_of-rule-requires c =
     omega (arith, left_low c.requires, c.requires.placed.sized.lent.shaped.even)
 
-is_pair_lem : (c : In-Pair-2) → PairOf c.args.table.now c.args.left c.rule-1.given.0.0 c.rule-1.given.0.1.0
+is_pair_lem : (c : In-Pair) → PairOf c.args.table.now c.args.left c.in-Pair.first c.in-Pair.second
 is_pair_lem c =
-    let (q, f) = c.rule-1.given in
-    pair_read c.args.table.now c.args.left c.requires.placed.sized.lent.shaped (left_low c.requires) q.0 q.1.0 (sym c.rule_of-rule.ensures ∙ f)
+    pair_read c.args.table.now c.args.left c.requires.placed.sized.lent.shaped (left_low c.requires) c.in-Pair.first c.in-Pair.second (sym c.rule_of-rule.ensures ∙ c.in-Pair.is)
 
 pub returns-then-second-right : goal.returns-then-second-right
 returns-then-second-right c =
-    λ k. left_same k (is_less c.before.before.before.before.before k) c.in-Pair.first c.in-Pair.second (is_pair_lem c.before.before.before) c.if-second-right.taken
+    λ k. left_same k (is_less (goal.at.returns-then-second-right c).After-rule_of-rule k) c.in-Pair.first c.in-Pair.second (is_pair_lem (goal.at.returns-then-second-right c).In-Pair) c.if-second-right.true
 
-middle : (c : In-Pair-2) → (c.rule-1.given.0.0 < 2304) × (c.args.start + length_in c.args.work.now c.rule-1.given.0.0 < c.args.behind)
+middle : (c : In-Pair) → (c.in-Pair.first < 2304) × (c.args.start + length_in c.args.work.now c.in-Pair.first < c.args.behind)
 middle c =
-    middle_room c.requires c.rule-1.given.0.0 c.rule-1.given.0.1.0 (is_pair_lem c)
+    middle_room c.requires c.in-Pair.first c.in-Pair.second (is_pair_lem c)
 
 pub bounds-work-first : goal.bounds-work-first
 bounds-work-first c =
-    omega (arith, middle c.before.before.before.before, c.requires.placed.sized.lent.long)
+    omega (arith, middle (goal.at.bounds-work-first c).In-Pair, c.requires.placed.sized.lent.long)
 
 pub overflow_add-middle : goal.overflow_add-middle
 overflow_add-middle c =
     let (_, _, apart, filled, room) = order_room c.requires in
-    omega (arith, middle c.before.before.before.before.before, c.wide.ensures, room)
+    omega (arith, middle (goal.at.overflow_add-middle c).In-Pair, c.wide.ensures, room)
 
 pub is_not_smaller-requires : goal.is_not_smaller-requires
 is_not_smaller-requires c =
     let (_, _, apart, filled, room) = order_room c.requires in
-    (omega (arith, middle c.before.before.before.before.before, c.wide.ensures), omega (arith, c.wide-n.ensures, filled), omega (arith, c.wide-n.ensures, room), c.requires.placed.sized.lent.long)
+    (omega (arith, middle (goal.at.is_not_smaller-requires c).In-Pair, c.wide.ensures), omega (arith, c.wide-n.ensures, filled), omega (arith, c.wide-n.ensures, room), c.requires.placed.sized.lent.long)
 
 pub returns-in-Symbol : goal.returns-in-Symbol
 returns-in-Symbol c =
-    λ k. left_symbol k (is_less c.before.before.before k) c.in-Symbol.field-0 c.in-Symbol.field-1 (symbol_read c.args.table.now c.args.left c.requires.placed.sized.lent.shaped (left_low c.requires) c.in-Symbol.field-0 c.in-Symbol.field-1 (sym c.rule_of-rule.ensures ∙ c.in-Symbol.is))
+    λ k. left_symbol k (is_less (goal.at.returns-in-Symbol c).After-rule_of-rule k) c.in-Symbol.field-0 c.in-Symbol.field-1 (symbol_read c.args.table.now c.args.left c.requires.placed.sized.lent.shaped (left_low c.requires) c.in-Symbol.field-0 c.in-Symbol.field-1 (sym c.rule_of-rule.ensures ∙ c.in-Symbol.is))
 
 pub returns-else-second-right : goal.returns-else-second-right
 returns-else-second-right c =
@@ -87,11 +78,11 @@ returns-else-second-right c =
     let middle = c.args.start + c.wide.result in
     let less = lexlt (part middle (c.args.behind - middle) (front w)) (part c.args.behind c.wide-n.result (front w)) in
     λ k. c.is_not_smaller.ensures
-    ∙ left_pair k (is_less c.before.before.before.before.before.before.before.before k) u v (is_pair_lem c.before.before.before.before.before.before) less
-    (right_test k u v (is_pair_lem c.before.before.before.before.before.before) less c.wide-n.result middle c.wide-n.ensures (ap (λ (i : ℕ). c.args.start + i) c.wide.ensures) refl)
+    ∙ left_pair k (is_less (goal.at.returns-else-second-right c).After-rule_of-rule k) u v (is_pair_lem (goal.at.returns-else-second-right c).In-Pair) less
+    (right_test k u v (is_pair_lem (goal.at.returns-else-second-right c).In-Pair) less c.wide-n.result middle c.wide-n.ensures (ap (λ (i : ℕ). c.args.start + i) c.wide.ensures) refl)
 
 pub overflow_add-first : goal.overflow_add-first
-overflow_add-first c = omega (arith, middle c.before.before.before)
+overflow_add-first c = omega (arith, middle (goal.at.overflow_add-first c).In-Pair)
 
 pub offset_bounds-work-first : goal.offset_bounds-work-first
-offset_bounds-work-first c = omega (arith, middle c.before.before.before)
+offset_bounds-work-first c = omega (arith, middle (goal.at.offset_bounds-work-first c).In-Pair)

@@ -16,6 +16,6 @@ unfolding part
 rest_before-requires c =
     (c.requires.0, c.requires.1, simp length-take (omega (arith, c.requires.2, c.requires.3)), ranks_same c.args.work.now c.args.i c.args.j (omega (arith, c.requires.0, c.requires.1, c.requires.2)) (omega (arith, c.requires.1, c.requires.2)) c.if-a-b.false)
 
-pub returns-then-a-b : goal.returns
+pub returns : goal.returns
 unfolding part
-returns-then-a-b c = c.rest_before.ensures
+returns c = c.rest_before.ensures

@@ -4,12 +4,8 @@ use Prim.Native.Nat.{◌-◌, ◌<◌}
 use native.Mathlib.Omega.{arith}
 use Rattle.joins.specs.Joining.{longest_tail}
 use Rattle.joins.proofs.Joining.{FitBehind, fits_all, short_right, fit_start, fit_more, fit_end}
-use Rattle.joins.proofs.first_fitting.Lts as lts
-use Rattle.joins.proofs.first_fitting.Reads as reads
+use Rattle.joins.proofs.first_fitting.Goals.{Start}
 use Rattle.joins.proofs.first_fitting.Goals as goal
-
-abbrev Start : Type 0
-Start = lts.Start reads.Pre reads.Post goal.the-invariant-loop-i goal.the-decreases-loop-i
 
 pub returns-then-longest-right : goal.returns-then-longest-right
 returns-then-longest-right c =
@@ -23,12 +19,12 @@ longer s h = omega (arith, s.requires.1)
 pub overflow_sub-low : goal.overflow_sub-low
 overflow_sub-low c =
     let a = c.args in
-    omega (arith, short_right a.work.now a.m a.n c.requires.0 c.requires.2 a.right (longer c.before.before (omega (arith, c.if-longest-right.false))))
+    omega (arith, short_right a.work.now a.m a.n c.requires.0 c.requires.2 a.right (longer (goal.at.overflow_sub-low c).Start (omega (arith, c.if-longest-right.false))))
 
 pub loop-i-init : goal.loop-i-init
 loop-i-init c =
     let a = c.args in
-    (refl, fit_start a.work.now a.m a.n c.requires.0 c.requires.2 a.right (longer c.before.before (omega (arith, c.if-longest-right.false))))
+    (refl, fit_start a.work.now a.m a.n c.requires.0 c.requires.2 a.right (longer (goal.at.loop-i-init c).Start (omega (arith, c.if-longest-right.false))))
 
 pub bounds-work-i : goal.bounds-work-i
 bounds-work-i c =
@@ -37,12 +33,12 @@ bounds-work-i c =
 pub loop-i-preserved : goal.loop-i-preserved
 loop-i-preserved c =
     let a = c.args in
-    (refl, fit_more a.work.now a.m a.n c.requires.0 c.requires.2 a.right (longer c.before.before.before.before.before (omega (arith, c.if-longest-right.false))) c.loop-i.i c.loop-i.invariant.1 (omega (arith, c.loop-i-test.true, c.loop-i.invariant.0)))
+    (refl, fit_more a.work.now a.m a.n c.requires.0 c.requires.2 a.right (longer (goal.at.loop-i-preserved c).Start (omega (arith, c.if-longest-right.false))) c.loop-i.i c.loop-i.invariant.1 (omega (arith, c.loop-i-test.true, c.loop-i.invariant.0)))
 
-pub returns-then-longest-right : goal.returns
-returns-then-longest-right c =
+pub returns : goal.returns
+returns c =
     let a = c.args in
-    fit_end a.work.now a.m a.n c.requires.0 c.requires.2 a.right (longer c.before.before.before.before.before (omega (arith, c.if-longest-right.false))) c.loop-i.i c.loop-i.invariant.1 (omega (arith, c.loop-i-test.false, c.loop-i.invariant.0))
+    fit_end a.work.now a.m a.n c.requires.0 c.requires.2 a.right (longer (goal.at.returns c).Start (omega (arith, c.if-longest-right.false))) c.loop-i.i c.loop-i.invariant.1 (omega (arith, c.loop-i-test.false, c.loop-i.invariant.0))
 
 pub overflow_cast-low : goal.overflow_cast-low
 overflow_cast-low c = omega (arith, c.requires.0.short)

@@ -15,7 +15,7 @@ overflow_sub-result c =
     let a = c.args in
     omega (arith, c.wide.ensures, first_range a.work.now a.m a.n c.requires.0 c.requires.1 (omega (arith, c.if-n-eq0.false)))
 
-pub returns-then-n-eq0 : goal.returns
-returns-then-n-eq0 c =
+pub returns : goal.returns
+returns c =
     let a = c.args in
     omega (arith, c.wide.ensures, longest_first a.work.now a.m a.n c.requires.0 c.requires.1 (omega (arith, c.if-n-eq0.false)))

@@ -32,8 +32,8 @@ returns-then-work-join c =
     let a = c.args in
     differ a.work.now a.m a.c a.join c.requires.0 c.if-work-join.true
 
-pub returns-then-work-join : goal.returns
-returns-then-work-join c =
+pub returns : goal.returns
+returns c =
     let a = c.args in
     let at = a.join - a.c in
     c.equal.ensures

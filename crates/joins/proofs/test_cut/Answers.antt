@@ -8,13 +8,8 @@ use Rattle.definitions.specs.Words.{same}
 use Rattle.lists.specs.Bools.{cond_true, cond_false}
 use Rattle.lists.specs.Parts.{part}
 use Rattle.layout.specs.Layout.{PATTERN, PACK}
-use Rattle.joins.proofs.test_cut.Lts as lts
-use Rattle.joins.proofs.test_cut.Reads as reads
-use Rattle.joins.proofs.test_cut.Tie as tie
+use Rattle.joins.proofs.test_cut.Goals.{After-straddles}
 use Rattle.joins.proofs.test_cut.Goals as goal
-
-abbrev After-straddles : Type 0
-After-straddles = lts.After-straddles tie.the-claims reads.Pre reads.Post
 
 -- what `straddles` answers
 compared : (c : After-straddles) → let a = c.args in c.straddles.result ≡ same (part (a.join - a.c) a.m a.work.now) (part PATTERN a.m a.work.now)
@@ -32,14 +27,14 @@ pub returns-then-not-straddles : goal.returns-then-not-straddles
 returns-then-not-straddles c =
     let a = c.args in
     let missed = not-true c.straddles.result c.if-not-straddles.true-raw in (
-      sym (cond_false (same (part (a.join - a.c) a.m a.work.now) (part PATTERN a.m a.work.now)) (PACK + a.c) a.before.found (sym (compared c.before.before.before) ∙ missed)),
+      sym (cond_false (same (part (a.join - a.c) a.m a.work.now) (part PATTERN a.m a.work.now)) (PACK + a.c) a.before.found (sym (compared (goal.at.returns-then-not-straddles c).After-straddles) ∙ missed)),
       refl,
     )
 
-pub returns-then-not-straddles : goal.returns
-returns-then-not-straddles c =
+pub returns : goal.returns
+returns c =
     let a = c.args in
     let hit = not-false c.straddles.result c.if-not-straddles.false-raw in (
-      sym (cond_true (same (part (a.join - a.c) a.m a.work.now) (part PATTERN a.m a.work.now)) (PACK + a.c) a.before.found (sym (compared c.before.before.before) ∙ hit)),
+      sym (cond_true (same (part (a.join - a.c) a.m a.work.now) (part PATTERN a.m a.work.now)) (PACK + a.c) a.before.found (sym (compared (goal.at.returns c).After-straddles) ∙ hit)),
       refl,
     )

@@ -8,13 +8,8 @@ use Rattle.lists.specs.Parts.{part}
 use Rattle.lyndon.specs.Tests.{fitting}
 use Rattle.layout.specs.Layout.{CUTS}
 use Rattle.joins.proofs.Joining.{Sought, nowhere, missed_first, sought_more, sought_all, cut_range, cut_inside, fitting_start, fitting_more, fitting_all}
-use Rattle.joins.proofs.test_join.Lts as lts
-use Rattle.joins.proofs.test_join.Reads as reads
-use Rattle.joins.proofs.test_join.Tie as tie
+use Rattle.joins.proofs.test_join.Goals.{In-loop-tested}
 use Rattle.joins.proofs.test_join.Goals as goal
-
-abbrev In-loop-tested : Type 0
-In-loop-tested = lts.Then1 tie.the-claims reads.Pre reads.Post goal.the-invariant-loop-tested goal.the-decreases-loop-tested
 
 pub loop-tested-init : goal.loop-tested-init
 loop-tested-init c =
@@ -47,7 +42,7 @@ bounds-work-i c =
 
 pub test_cut-tested-requires : goal.test_cut-tested-requires
 test_cut-tested-requires c =
-    let (low, some, less, short, tail) = cut_here c.before.before in
+    let (low, some, less, short, tail) = cut_here (goal.at.test_cut-tested-requires c).In-loop-tested in
     (record { some = some; inside = less; short = c.requires.0.short; front = omega (arith, c.loop-tested.invariant.0); tail = omega (arith, c.loop-tested.invariant.0, c.requires.2) }, c.requires.3, omega (arith, low, c.loop-tested.invariant.5, c.requires.0.few, c.requires.4))
 
 pub loop-tested-preserved : goal.loop-tested-preserved
@@ -55,7 +50,7 @@ loop-tested-preserved c =
     let a = c.args in
     let i = c.loop-tested.i in
     let x = get_or a.work.now (CUTS + i) 0 in
-    let (low, some, less, short, tail) = cut_here c.before.before.before in
+    let (low, some, less, short, tail) = cut_here (goal.at.loop-tested-preserved c).In-loop-tested in
     let more = fitting_more a.work.now a.m a.n a.at a.left a.right c.requires.0 c.requires.2 c.requires.3 i low short tail in (
       refl,
       omega arith,
@@ -100,4 +95,4 @@ pub overflow_add-i-in-loop-tested-2 : goal.overflow_add-i-in-loop-tested-2
 overflow_add-i-in-loop-tested-2 c = omega (arith, c.loop-tested.invariant.1, c.requires.0.few)
 
 pub loop-tested-smaller : goal.loop-tested-smaller
-loop-tested-smaller c = let k = cut_here c.before.before.before in omega (arith, k.0)
+loop-tested-smaller c = let k = cut_here (goal.at.loop-tested-smaller c).In-loop-tested in omega (arith, k.0)

@@ -7,13 +7,8 @@ use Rattle.lyndon.specs.Ruled.{PairOf}
 use Rattle.layout.specs.Layout.{length_in}
 use Rattle.decoding.proofs.Rules.{symbol_read, pair_read}
 use Rattle.lengths.proofs.Sizes.{rules_few, symbol_length, pair_length, pair_fits}
-use Rattle.lengths.proofs.length_of.Lts as lts
-use Rattle.lengths.proofs.length_of.Reads as reads
-use Rattle.lengths.proofs.length_of.Tie as tie
+use Rattle.lengths.proofs.length_of.Goals.{In-Pair}
 use Rattle.lengths.proofs.length_of.Goals as goal
-
-abbrev In-Pair-2 : Type 0
-In-Pair-2 = lts.After-rule tie.the-claims reads.Pre reads.Post
 
 pub rule_of-rule-requires : goal.rule_of-rule-requires
 rule_of-rule-requires c = omega (arith, c.requires.1, c.requires.0.lent.shaped.even)
@@ -22,39 +17,38 @@ pub returns-in-Symbol : goal.returns-in-Symbol
 returns-in-Symbol c =
     symbol_length c.requires.0 c.in-Symbol.field-0 c.in-Symbol.field-1 (symbol_read c.args.table.now c.args.r c.requires.0.lent.shaped c.requires.1 c.in-Symbol.field-0 c.in-Symbol.field-1 (sym c.rule_of-rule.ensures ∙ c.in-Symbol.is))
 
-is_pair_lem : (c : In-Pair-2) → let a = c.args in PairOf a.table.now a.r c.rule-1.given.0.0 c.rule-1.given.0.1.0
+is_pair_lem : (c : In-Pair) → let a = c.args in PairOf a.table.now a.r c.in-Pair.left c.in-Pair.right
 is_pair_lem c =
-    let (q, e) = c.rule-1.given in
-    pair_read c.args.table.now c.args.r c.requires.0.lent.shaped c.requires.1 q.0 q.1.0 (sym c.rule_of-rule.ensures ∙ e)
+    pair_read c.args.table.now c.args.r c.requires.0.lent.shaped c.requires.1 c.in-Pair.left c.in-Pair.right (sym c.rule_of-rule.ensures ∙ c.in-Pair.is)
 
-room : (c : In-Pair-2) → let a = c.args in
-    (c.rule-1.given.0.0 < 2304) × (c.rule-1.given.0.1.0 < 2304) × (length_in a.work.now c.rule-1.given.0.0 + length_in a.work.now c.rule-1.given.0.1.0 ≤ 4096)
+room : (c : In-Pair) → let a = c.args in
+    (c.in-Pair.left < 2304) × (c.in-Pair.right < 2304) × (length_in a.work.now c.in-Pair.left + length_in a.work.now c.in-Pair.right ≤ 4096)
 room c =
-    let (left, right, sum) = pair_fits c.requires.0 c.rule-1.given.0.0 c.rule-1.given.0.1.0 (is_pair_lem c) in
+    let (left, right, sum) = pair_fits c.requires.0 c.in-Pair.left c.in-Pair.right (is_pair_lem c) in
     let few = rules_few c.requires.0.lent in
     (omega (arith, c.requires.1), omega (arith, c.requires.1), sum)
 
 pub bounds-work-left : goal.bounds-work-left
-bounds-work-left c = omega (arith, room c.before.before.before, c.requires.0.lent.long)
+bounds-work-left c = omega (arith, room (goal.at.bounds-work-left c).In-Pair, c.requires.0.lent.long)
 
 pub bounds-work-right : goal.bounds-work-right
-bounds-work-right c = omega (arith, room c.before.before.before.before, c.requires.0.lent.long)
+bounds-work-right c = omega (arith, room (goal.at.bounds-work-right c).In-Pair, c.requires.0.lent.long)
 
 pub returns-in-Pair : goal.returns-in-Pair
 returns-in-Pair c =
-    pair_length c.requires.0 c.in-Pair.left c.in-Pair.right (is_pair_lem c.before.before.before.before)
+    pair_length c.requires.0 c.in-Pair.left c.in-Pair.right (is_pair_lem (goal.at.returns-in-Pair c).In-Pair)
 
 pub overflow_add-result : goal.overflow_add-result
-overflow_add-result c = omega (arith, room c.before.before)
+overflow_add-result c = omega (arith, room (goal.at.overflow_add-result c).In-Pair)
 
 pub offset_bounds-work-left : goal.offset_bounds-work-left
-offset_bounds-work-left c = omega (arith, room c.before.before)
+offset_bounds-work-left c = omega (arith, room (goal.at.offset_bounds-work-left c).In-Pair)
 
 pub overflow_add-result-in-Pair : goal.overflow_add-result-in-Pair
-overflow_add-result-in-Pair c = omega (arith, room c.before.before.before)
+overflow_add-result-in-Pair c = omega (arith, room (goal.at.overflow_add-result-in-Pair c).In-Pair)
 
 pub offset_bounds-work-right : goal.offset_bounds-work-right
-offset_bounds-work-right c = omega (arith, room c.before.before.before)
+offset_bounds-work-right c = omega (arith, room (goal.at.offset_bounds-work-right c).In-Pair)
 
 pub overflow_add-result-in-Pair-2 : goal.overflow_add-result-in-Pair-2
-overflow_add-result-in-Pair-2 c = omega (arith, room c.before.before.before.before)
+overflow_add-result-in-Pair-2 c = omega (arith, room (goal.at.overflow_add-result-in-Pair-2 c).In-Pair)

@@ -9,13 +9,8 @@ use Rattle.decimals.proofs.Digits.{line_most}
 use Rattle.lines.specs.Turns.{turns}
 use Rattle.lines.proofs.Turns.{turns_none, turns_room, turns_stored, turns_all}
 use Rattle.lines.proofs.Lines.{line_at, lines_turns}
-use Rattle.lines.proofs.put_decimal_lines.Lts as lts
-use Rattle.lines.proofs.put_decimal_lines.Reads as reads
-use Rattle.lines.proofs.put_decimal_lines.Tie as tie
+use Rattle.lines.proofs.put_decimal_lines.Goals.{In-loop-i}
 use Rattle.lines.proofs.put_decimal_lines.Goals as goal
-
-abbrev After-shared_slice_known-in-loop-i-1 : Type 0
-After-shared_slice_known-in-loop-i-1 = lts.After-shared_slice_known2 tie.the-claims reads.Pre reads.Post goal.the-invariant-loop-i goal.the-decreases-loop-i
 
 pub loop-i-init : goal.loop-i-init
 loop-i-init c =
@@ -23,34 +18,35 @@ loop-i-init c =
     (omega arith, refl, turns_none (line_at decimal a.numbers.now) a.out.now)
 
 -- there is room for one more
-room : (t : After-shared_slice_known-in-loop-i-1) → t.loop-i.n + 11 ≤ length t.args.out.now
+room : (t : In-loop-i) → t.loop-i.n + 11 ≤ length t.args.out.now
 room t =
     turns_room (line_at decimal t.args.numbers.now) 11 t.loop-i.i (length t.args.numbers.now) (λ j h. line_most (get_or t.args.numbers.now j 0)) (omega (arith, t.loop-i-test.true)) t.requires t.loop-i.invariant.2
 
 pub slice_bounds-put_decimal_line-count : goal.slice_bounds-put_decimal_line-count
-slice_bounds-put_decimal_line-count c = omega (arith, room c.before.before)
+slice_bounds-put_decimal_line-count c = omega (arith, room (goal.at.slice_bounds-put_decimal_line-count c).In-loop-i)
 
 pub slice_bounds-put_decimal_line-start : goal.slice_bounds-put_decimal_line-start
-slice_bounds-put_decimal_line-start c = omega (arith, room c.before.before)
+slice_bounds-put_decimal_line-start c = omega (arith, room (goal.at.slice_bounds-put_decimal_line-start c).In-loop-i)
 
 pub put_decimal_line-n-requires : goal.put_decimal_line-n-requires
-put_decimal_line-n-requires c = simp (length-take, length-drop) (omega (arith, room c.before.before.before))
+put_decimal_line-n-requires c = simp (length-take, length-drop) (omega (arith, room (goal.at.put_decimal_line-n-requires c).In-loop-i))
 
 pub overflow_add-n : goal.overflow_add-n
 overflow_add-n c =
-    omega (arith, room c.before.before.before.before.before.before, c.put_decimal_line-n.ensures.value, line_most c.wide.result)
+    omega (arith, room (goal.at.overflow_add-n c).In-loop-i, c.put_decimal_line-n.ensures.value, line_most c.wide.result)
 
 pub loop-i-preserved : goal.loop-i-preserved
 loop-i-preserved c =
     let a = c.args in
     let e = ap (λ (n : ℕ). line (decimal n)) c.wide.ensures in
-    let more = turns_stored (line_at decimal a.numbers.now) c.loop-i.i e (omega (arith, room c.before.before.before.before.before.before, line_most (get_or a.numbers.now c.loop-i.i 0))) c.loop-i.invariant.2 c.put_decimal_line-n.ensures.value c.put_decimal_line-n.ensures.out_after in
+    let more = turns_stored (line_at decimal a.numbers.now) c.loop-i.i e (omega (arith, room (goal.at.loop-i-preserved c).In-loop-i, line_most (get_or a.numbers.now c.loop-i.i 0))) c.loop-i.invariant.2 c.put_decimal_line-n.ensures.value c.put_decimal_line-n.ensures.out_after in
     (omega arith, more.0, more.1)
 
 pub returns : goal.returns
 returns c =
     let numbers = c.args.numbers.now in
-    turns_all (line_at decimal numbers) c.loop-i.i (length numbers) (omega arith) (lines_turns decimal numbers) c.loop-i.invariant.2
+    let (first, second) = turns_all (line_at decimal numbers) c.loop-i.i (length numbers) (omega arith) (lines_turns decimal numbers) c.loop-i.invariant.2 in
+    record { value = first; out_after = second }
 
 pub shape_of-out : goal.shape_of-out
 shape_of-out c = c.loop-i.invariant.1

@@ -9,13 +9,8 @@ use Rattle.lists.specs.Lists.{Fronted}
 use Rattle.lines.specs.Turns.{turns}
 use Rattle.lines.proofs.Turns.{turns_none, turns_room, turns_stored, turns_all}
 use Rattle.lines.proofs.Lines.{spaced_at, spaced_turns, byte_most}
-use Rattle.lines.proofs.put_spaced.Lts as lts
-use Rattle.lines.proofs.put_spaced.Reads as reads
-use Rattle.lines.proofs.put_spaced.Tie as tie
+use Rattle.lines.proofs.put_spaced.Goals.{In-loop-i}
 use Rattle.lines.proofs.put_spaced.Goals as goal
-
-abbrev After-shared_slice_known-in-loop-i-1 : Type 0
-After-shared_slice_known-in-loop-i-1 = lts.After-shared_slice_known2 tie.the-claims reads.Pre reads.Post goal.the-invariant-loop-i goal.the-decreases-loop-i
 
 pub loop-i-init : goal.loop-i-init
 loop-i-init c =
@@ -44,16 +39,16 @@ pub slice_bounds-put_decimal-start : goal.slice_bounds-put_decimal-start
 slice_bounds-put_decimal-start c = omega (arith, room c)
 
 -- without what stands behind the number
-digits : (t : After-shared_slice_known-in-loop-i-1) → length (decimal (get_or t.args.bytes.now t.loop-i.i 0)) ≤ 3
+digits : (t : In-loop-i) → length (decimal (get_or t.args.bytes.now t.loop-i.i 0)) ≤ 3
 digits t =
     omega (arith, small t t.loop-i.i, length-append (decimal (get_or t.args.bytes.now t.loop-i.i 0)) (32 ∷ []))
 
 pub put_decimal-n-requires : goal.put_decimal-n-requires
-put_decimal-n-requires c = simp (length-take, length-drop) (omega (arith, room c, digits c.before.before))
+put_decimal-n-requires c = simp (length-take, length-drop) (omega (arith, room c, digits (goal.at.put_decimal-n-requires c).In-loop-i))
 
 pub overflow_add-n : goal.overflow_add-n
 overflow_add-n c =
-    omega (arith, room t, digits c.before.before.before.before.before, c.put_decimal-n.ensures.value ∙ length-append (decimal (get_or c.args.bytes.now c.loop-i.i 0)) _)
+    omega (arith, room t, digits (goal.at.overflow_add-n c).In-loop-i, c.put_decimal-n.ensures.value ∙ length-append (decimal (get_or c.args.bytes.now c.loop-i.i 0)) _)
 
 pub loop-i-preserved : goal.loop-i-preserved
 loop-i-preserved c =
@@ -64,7 +59,8 @@ loop-i-preserved c =
 pub returns : goal.returns
 returns c =
     let bytes = c.args.bytes.now in
-    turns_all (spaced_at bytes) c.loop-i.i (length bytes) (omega arith) (spaced_turns bytes) c.loop-i.invariant.2
+    let (first, second) = turns_all (spaced_at bytes) c.loop-i.i (length bytes) (omega arith) (spaced_turns bytes) c.loop-i.invariant.2 in
+    record { value = first; out_after = second }
 
 pub shape_of-out : goal.shape_of-out
 shape_of-out c = c.loop-i.invariant.1

@@ -44,8 +44,8 @@ copy-requires c =
     let a = lyndon_array (map (rank_of h.order) h.text) in
     simp (length-take, length-drop) (omega (arith, size h n q, list_fits a c.args.res.now n (size h n q) c.result_fits-a.result c.result_fits-a.ensures c.in-Done.is))
 
-pub returns-in_default : goal.returns
-returns-in_default c h e =
+pub returns : goal.returns
+returns c h e =
     let n = c.text_length-n.result in
     let q = c.text_length-n.ensures h e in
     let a = lyndon_array (map (rank_of h.order) h.text) in

@@ -25,10 +25,10 @@ bounds-work-position c =
     let h = c.requires.0 in
     let n = c.text_length-n.result in
     let q = c.text_length-n.ensures h c.requires.1 in
-    omega (arith, c.place_array.auto.1.0, room h n q, low h n q c.args.position c.range_fits-a.result c.range_fits-a.ensures c.in-Done.is)
+    omega (arith, c.place_array.auto.work, room h n q, low h n q c.args.position c.range_fits-a.result c.range_fits-a.ensures c.in-Done.is)
 
-pub returns-in_default : goal.returns
-returns-in_default c h e =
+pub returns : goal.returns
+returns c h e =
     let q = c.text_length-n.ensures h e in
     length_served h c.text_length-n.result q c.args.position c.range_fits-a.result c.range_fits-a.ensures c.in-Done.is c.place_array.new.work
     (c.place_array.ensures h q) c.wide.result c.wide.ensures

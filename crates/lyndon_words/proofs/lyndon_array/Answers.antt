@@ -5,13 +5,8 @@ use borrow.Author.Rules.{rules}
 use Rattle.definitions.specs.Services.{sample_order, lyndon_array_service}
 use Rattle.lists.specs.Serving.{answer_refuses}
 use Rattle.opening.proofs.Services.{ready, opening_refused, Succeeded, opening_done, opening_lent}
-use Rattle.lyndon_words.proofs.lyndon_array.Lts as lts
-use Rattle.lyndon_words.proofs.lyndon_array.Reads as reads
-use Rattle.lyndon_words.proofs.lyndon_array.Tie as tie
+use Rattle.lyndon_words.proofs.lyndon_array.Goals.{In-Done}
 use Rattle.lyndon_words.proofs.lyndon_array.Goals as goal
-
-abbrev In-Done-2 : Type 0
-In-Done-2 = lts.After-a tie.the-claims reads.Pre reads.Post
 
 pub returns-in_default : goal.returns-in_default
 unfolding lyndon_array_service
@@ -19,21 +14,21 @@ returns-in_default c =
     opening_refused _ c.admit-a.ensures c.in_default.is (answer_refuses c.admit-a.result) (λ d. refl)
 
 -- the table is opened
-succeeded : (k : In-Done-2) → let a = k.args in
-    Succeeded sample_order a.table.now a.work.now k.admit-a.new.work k.a-1.given.0.0
-succeeded k = opening_done k.admit-a.ensures k.a-1.given.1
+succeeded : (k : In-Done) → let a = k.args in
+    Succeeded sample_order a.table.now a.work.now k.admit-a.new.work k.in-Done.rules
+succeeded k = opening_done k.admit-a.ensures k.in-Done.is
 
 pub slice_bounds-array_loaded-end : goal.slice_bounds-array_loaded-end
-slice_bounds-array_loaded-end c = omega (arith, (succeeded c.before.before).loads.long)
+slice_bounds-array_loaded-end c = omega (arith, (succeeded (goal.at.slice_bounds-array_loaded-end c).In-Done).loads.long)
 
 pub array_loaded-written-requires : goal.array_loaded-written-requires
-array_loaded-written-requires c = let x = succeeded c.before.before.before.before in (ready x.loads, x.rules)
+array_loaded-written-requires c = let x = succeeded (goal.at.array_loaded-written-requires c).In-Done in (ready x.loads, x.rules)
 
 pub clear_front-requires : goal.clear_front-requires
-clear_front-requires c = omega (arith, (succeeded c.before.before.before.before.before.before.before.before.before.before).loads.long)
+clear_front-requires c = omega (arith, (succeeded (goal.at.clear_front-requires c).In-Done).loads.long)
 
-pub returns-in_default : goal.returns
+pub returns : goal.returns
 unfolding lyndon_array_service ready
-returns-in_default c =
-    let x = succeeded c.before.before.before.before.before.before.before.before.before.before.before.before.before in
-    opening_lent x (refl, refl) c.array_loaded-written.new.work c.array_loaded-written.auto.1.0 c.clear_front.ensures (c.array_loaded-written.ensures (ready x.loads) x.rules)
+returns c =
+    let x = succeeded (goal.at.returns c).In-Done in
+    opening_lent x (refl, refl) c.array_loaded-written.new.work c.array_loaded-written.auto.work c.clear_front.ensures (c.array_loaded-written.ensures (ready x.loads) x.rules)

@@ -7,6 +7,6 @@ pub returns-then-n-input : goal.returns-then-n-input
 returns-then-n-input c =
     behind_ten c.args.input.now c.motif_length-n.result c.motif_length-n.ensures c.if-n-input.true
 
-pub returns-then-n-input : goal.returns
-returns-then-n-input c =
+pub returns : goal.returns
+returns c =
     at_end c.args.input.now c.motif_length-n.result c.motif_length-n.ensures c.if-n-input.false

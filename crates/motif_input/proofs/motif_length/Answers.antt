@@ -18,6 +18,6 @@ pub loop-i-preserved : goal.loop-i-preserved
 loop-i-preserved c =
     (omega arith, goes_on c.args.input.now c.loop-i.i (omega arith) c.if-input-i-eq10.false c.loop-i.invariant.1)
 
-pub returns-then-input-i-eq10 : goal.returns
-returns-then-input-i-eq10 c =
+pub returns : goal.returns
+returns c =
     ends_last c.args.input.now c.loop-i.i (omega arith) c.loop-i.invariant.1

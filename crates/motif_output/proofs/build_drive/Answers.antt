@@ -18,8 +18,8 @@ returns-in_default c =
     let a = c.args in
     drive_long sample_order a.input.now a.table.now c.input_fits-size.result c.input_fits-size.ensures c.in_default.is
 
-pub returns-in_default : goal.returns
-returns-in_default c =
+pub returns : goal.returns
+returns c =
     let input = c.args.input.now in
     let from = c.drive_start-from.result in
     let short = ltb-false 4095 (length input) (done_met (input_too_long input) (length input) c.input_fits-size.ensures c.in-Done.is).0 in

@@ -25,7 +25,7 @@ loop-k-preserved c =
     let a = c.args in
     (omega arith, omega arith, c.loop-k.invariant.2 ∙ agrees a.pattern.now a.text.now a.i c.loop-k.k (omega arith) (omega arith) c.if-pattern-k.false)
 
-pub returns-then-text-i : goal.returns
-returns-then-text-i c =
+pub returns : goal.returns
+returns c =
     let a = c.args in
     sym (c.loop-k.invariant.2 ∙ pattern_ends a.pattern.now a.text.now a.i c.loop-k.k (omega arith))

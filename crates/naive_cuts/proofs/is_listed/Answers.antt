@@ -29,8 +29,8 @@ loop-d-preserved c =
     let a = c.args in
     (omega arith, one_more_tried (none_again (map (rank_of sample_order) a.pattern.now) a.c) c.loop-d.d c.loop-d.invariant.1 (ap not (sym c.word_again.ensures ∙ c.if-word_again.false)))
 
-pub returns-then-not-is_live : goal.returns
-returns-then-not-is_live c =
+pub returns : goal.returns
+returns c =
     let a = c.args in
     sym (never_again (map (rank_of sample_order) a.pattern.now) a.c c.loop-d.d (sym c.is_live.ensures ∙ not-false c.is_live.result c.if-not-is_live.false-raw) (omega arith) c.loop-d.invariant.1)
 

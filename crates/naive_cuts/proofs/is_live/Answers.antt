@@ -26,7 +26,7 @@ loop-d-preserved c =
     let passes = beside (rank_of sample_order) a.pattern.now a.c c.loop-d.d ∙ sym c.not_greater.ensures ∙ not-false c.not_greater.result c.if-not-not_greater.false-raw in
     (omega arith, one_more_tried (passes_beside (map (rank_of sample_order) a.pattern.now) a.c) c.loop-d.d c.loop-d.invariant.1 passes)
 
-pub returns-then-not-not_greater : goal.returns
-returns-then-not-not_greater c =
+pub returns : goal.returns
+returns c =
     let a = c.args in
     sym (all_beside (rank_of sample_order) a.pattern.now a.c c.loop-d.d (omega arith) c.loop-d.invariant.1)

@@ -19,7 +19,7 @@ returns-then-is_smaller c =
     let a = c.args in
     sym (front_greater (rank_of sample_order) a.x.now a.y.now (length a.x.now - 0) (omega arith) (sym c.is_smaller.ensures ∙ c.if-is_smaller.true))
 
-pub returns-then-y-n : goal.returns
-returns-then-y-n c =
+pub returns : goal.returns
+returns c =
     let a = c.args in
     front_decides (rank_of sample_order) a.x.now a.y.now (length a.x.now - 0) (omega arith) c.is_smaller-2.result (omega arith) (sym c.is_smaller.ensures ∙ c.if-is_smaller.false) c.is_smaller-2.ensures

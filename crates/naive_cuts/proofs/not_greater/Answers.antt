@@ -20,8 +20,8 @@ returns-then-is_prefix-2 c =
     let a = c.args in
     sym (extended_passes (ranks a.x.now) (ranks a.y.now) (sym c.is_prefix-2.ensures ∙ c.if-is_prefix-2.true))
 
-pub returns-then-is_prefix : goal.returns
-returns-then-is_prefix c =
+pub returns : goal.returns
+returns c =
     let a = c.args in
     c.is_smaller.ensures
     ∙ sym (order_decides (ranks a.x.now) (ranks a.y.now) (sym c.is_prefix.ensures ∙ c.if-is_prefix.false) (sym c.is_prefix-2.ensures ∙ c.if-is_prefix-2.false))

@@ -18,7 +18,7 @@ returns-then-not-is_prefix c =
     let a = c.args in
     sym (again (rank_of sample_order) a.pattern.now a.c a.d (omega arith) (omega arith) ∙ rw (sym c.is_lyndon.ensures ∙ not-false c.is_lyndon.result c.if-not-is_lyndon.false-raw, sym c.is_prefix.ensures ∙ not-true c.is_prefix.result c.if-not-is_prefix.true-raw))
 
-pub returns-then-not-is_lyndon : goal.returns
-returns-then-not-is_lyndon c =
+pub returns : goal.returns
+returns c =
     let a = c.args in
     sym (again (rank_of sample_order) a.pattern.now a.c a.d (omega arith) (omega arith) ∙ rw (sym c.is_lyndon.ensures ∙ not-false c.is_lyndon.result c.if-not-is_lyndon.false-raw, sym c.is_prefix.ensures ∙ not-false c.is_prefix.result c.if-not-is_prefix.false-raw))

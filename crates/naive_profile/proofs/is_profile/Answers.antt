@@ -25,8 +25,8 @@ returns-then-drive-ne0 c =
     let x = c.args.drive.now in
     rw (profile_off x, le-ltb (first_off x) (length x) (omega (arith, c.lowest_off.ensures, c.if-lowest_off-n.false)), lt-ltb 0 (length x) (omega arith), ne_eqb (get_or x 0 0) 0 c.if-drive-ne0.true)
 
-pub returns-then-n-eq0 : goal.returns
+pub returns : goal.returns
 unfolding at_rest
-returns-then-n-eq0 c =
+returns c =
     let x = c.args.drive.now in
     rw (profile_off x, le-ltb (first_off x) (length x) (omega (arith, c.lowest_off.ensures, c.if-lowest_off-n.false)), lt-ltb 0 (length x) (omega arith), eq-eqb (get_or x 0 0) 0 c.if-drive-ne0.false)

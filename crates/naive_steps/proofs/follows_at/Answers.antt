@@ -31,7 +31,7 @@ loop-k-preserved c =
       c.loop-k.invariant.2 ∙ agrees a.pattern.now a.drive.now a.i c.loop-k.k (omega arith) (omega arith) (sym c.step_at.ensures ∙ c.if-step_at.false ∙ c.step_at-in-loop-k.ensures),
     )
 
-pub returns-then-drive-i : goal.returns
-returns-then-drive-i c =
+pub returns : goal.returns
+returns c =
     let a = c.args in
     sym (c.loop-k.invariant.2 ∙ pattern_ends a.pattern.now a.drive.now a.i c.loop-k.k (omega arith))

@@ -19,7 +19,7 @@ returns-then-cut-length_at c =
     let a = c.args in
     λ o. right_decides o a.table.now a.m a.r a.c c.requires.2 c.if-x-ne1.false (omega arith) c.length_at.result (c.length_at.ensures a.table.now c.requires.0 o) c.length_at-then-cut-length_at.result (c.length_at-then-cut-length_at.ensures a.table.now c.requires.0 o) c.requires.1 (omega (arith, c.if-cut-length_at.true))
 
-pub returns-then-x-ne1 : goal.returns
-returns-then-x-ne1 c =
+pub returns : goal.returns
+returns c =
     let a = c.args in
     λ o. left_short o a.table.now a.m a.r a.c c.requires.2 c.if-x-ne1.false (omega arith) c.length_at.result (c.length_at.ensures a.table.now c.requires.0 o) (omega (arith, c.if-cut-length_at.false))

@@ -9,13 +9,8 @@ use Rattle.definitions.specs.declared.Order.TheVariants.{Unsigned}
 use Rattle.definitions.specs.Table.{string_of, strings}
 use Rattle.naive_tests.specs.Lengths.{kept}
 use Rattle.naive_tests.proofs.Testing.{symbol_length, pair_length}
-use Rattle.naive_tests.proofs.length_of.Lts as lts
-use Rattle.naive_tests.proofs.length_of.Reads as reads
-use Rattle.naive_tests.proofs.length_of.Tie as tie
+use Rattle.naive_tests.proofs.length_of.Goals.{After-length_at-2}
 use Rattle.naive_tests.proofs.length_of.Goals as goal
-
-abbrev After-length_at-2 : Type 0
-After-length_at-2 = lts.After-length_at2 tie.the-claims reads.Pre reads.Post
 
 pub returns-then-x-eq0 : goal.returns-then-x-eq0
 returns-then-x-eq0 c =

@@ -24,6 +24,6 @@ loop-k-preserved c =
     let greater = suffix_greater (rank_of sample_order) w c.loop-k.k (sym c.is_smaller.ensures ∙ not-false c.is_smaller.result c.if-not-is_smaller.false-raw) in
     (omega arith, one_more_tried (smaller_than_suffix (map (rank_of sample_order) w)) c.loop-k.k c.loop-k.invariant.1 greater)
 
-pub returns-then-not-is_smaller : goal.returns
-returns-then-not-is_smaller c =
+pub returns : goal.returns
+returns c =
     sym (all_greater (rank_of sample_order) c.args.word.now c.loop-k.k (omega arith) c.loop-k.invariant.1)

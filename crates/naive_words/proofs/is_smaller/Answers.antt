@@ -31,8 +31,8 @@ loop-i-preserved c =
           ∙ agree (rank_of sample_order) a.x.now a.y.now c.loop-i.i (omega arith) (omega arith) (sym c.precedes.ensures ∙ c.if-precedes.false) (sym c.precedes-in-loop-i.ensures ∙ c.if-precedes-2.false),
     )
 
-pub returns-then-y-i : goal.returns
-returns-then-y-i c =
+pub returns : goal.returns
+returns c =
     let a = c.args in
     sym (c.loop-i.invariant.1 ∙ first_ends (rank_of sample_order) a.x.now a.y.now c.loop-i.i (omega arith))
 

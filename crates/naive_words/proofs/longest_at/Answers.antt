@@ -25,7 +25,7 @@ loop-k-preserved c =
     let a = c.args in
     (omega arith, c.loop-k.invariant.1 ∙ passed (rank_of sample_order) a.text.now a.i c.loop-k.k (a.i + c.loop-k.k - a.i) (omega arith) (omega arith) (sym c.is_lyndon.ensures ∙ c.if-is_lyndon.false))
 
-pub returns-then-is_lyndon : goal.returns
-returns-then-is_lyndon c =
+pub returns : goal.returns
+returns c =
     let a = c.args in
     sym (c.loop-k.invariant.1 ∙ none_left (rank_of sample_order) a.text.now a.i c.loop-k.k (omega arith))

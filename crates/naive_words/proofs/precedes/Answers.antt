@@ -35,5 +35,5 @@ returns-then-a-lt128 c = falls c.args.a c.args.b c.if-a-lt128.true c.if-b-lt128.
 pub returns-then-b-lt128-2 : goal.returns-then-b-lt128-2
 returns-then-b-lt128-2 c = rises c.args.a c.args.b c.if-a-lt128.false c.ranges.a.fits c.if-b-lt128-2.true
 
-pub returns-then-b-lt128 : goal.returns
-returns-then-b-lt128 c = high c.args.a c.args.b c.if-a-lt128.false c.ranges.a.fits c.if-b-lt128-2.false c.ranges.b.fits
+pub returns : goal.returns
+returns c = high c.args.a c.args.b c.if-a-lt128.false c.ranges.a.fits c.if-b-lt128-2.false c.ranges.b.fits

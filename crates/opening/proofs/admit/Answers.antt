@@ -55,8 +55,8 @@ settle-requires c =
     (done_met (table_length (length t)) (length t) c.length_fits-size.ensures c.in-Done-size.is).0
     (done_met (has_bad_word t) (rule_count t) c.words_fit-words.ensures c.in-Done-words.is).0
 
-pub returns-in_default : goal.returns
-returns-in_default c =
+pub returns : goal.returns
+returns c =
     let a = c.args in
     let n = length a.work.now in
     let t = a.table.now in

@@ -5,13 +5,8 @@ use borrow.Author.Rules.{rules}
 use Rattle.lyndon.specs.Stored.{rule_range}
 use Rattle.places.proofs.Sizes.{size_start}
 use Rattle.places.proofs.Starts.{place_start, place_end}
-use Rattle.places.proofs.place_rules.Lts as lts
-use Rattle.places.proofs.place_rules.Reads as reads
-use Rattle.places.proofs.place_rules.Tie as tie
+use Rattle.places.proofs.place_rules.Goals.{Start}
 use Rattle.places.proofs.place_rules.Goals as goal
-
-abbrev Start : Type 0
-Start = lts.Start tie.the-claims reads.Pre reads.Post
 
 pub size_all-requires : goal.size_all-requires
 size_all-requires c =
@@ -27,7 +22,7 @@ range s =
 
 pub put-requires : goal.put-requires
 put-requires c =
-    omega (arith, range c.before.before.before.before.before.before.before, c.requires.2.built.long, c.size_all.auto.0)
+    omega (arith, range (goal.at.put-requires c).Start, c.requires.2.built.long, c.size_all.auto.work)
 
 pub place_all-requires : goal.place_all-requires
 place_all-requires c =
@@ -41,7 +36,7 @@ returns c g e m =
     (place_start g c.size_all.new.work c.put.new.s c.args.rules e (c.size_all.ensures g e (size_start g c.args.work.now m)) c.put.ensures))
 
 pub overflow_sub-rules : goal.overflow_sub-rules
-overflow_sub-rules c = omega (arith, range c.before.before.before.before.before.before.before)
+overflow_sub-rules c = omega (arith, range (goal.at.overflow_sub-rules c).Start)
 
 pub overflow_add-rules : goal.overflow_add-rules
-overflow_add-rules c = omega (arith, range c.before.before.before.before.before.before.before)
+overflow_add-rules c = omega (arith, range (goal.at.overflow_add-rules c).Start)

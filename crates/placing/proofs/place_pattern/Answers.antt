@@ -9,16 +9,8 @@ use Rattle.cuts.proofs.Lists.{most_cuts, eleven}
 use Rattle.layout.specs.Layout.{PATTERN, CUTS}
 use Rattle.rule_finds.specs.Searching.{Counting}
 use Rattle.placing.proofs.Placing.{pattern_here, counting_start, cuts_length}
-use Rattle.placing.proofs.place_pattern.Lts as lts
-use Rattle.placing.proofs.place_pattern.Reads as reads
-use Rattle.placing.proofs.place_pattern.Tie as tie
+use Rattle.placing.proofs.place_pattern.Goals.{After-floor_log2-k, After-list-n}
 use Rattle.placing.proofs.place_pattern.Goals as goal
-
-abbrev After-floor_log2-k : Type 0
-After-floor_log2-k = lts.After-floor_log2 tie.the-claims reads.Pre reads.Post
-
-abbrev After-list-n : Type 0
-After-list-n = lts.After-list tie.the-claims reads.Pre reads.Post
 
 -- the list has at most 11 words
 few : (c : After-floor_log2-k) → c.floor_log2-k.result + 1 ≤ 11
@@ -28,12 +20,12 @@ few c =
 pub list-n-requires : goal.list-n-requires
 list-n-requires c =
     let most = most_cuts c.args.order c.args.pattern.now c.floor_log2-k.result c.floor_log2-k.ensures in
-    (simp (length-take, length-drop) (omega (arith, few c.before.before, most)), c.requires.1)
+    (simp (length-take, length-drop) (omega (arith, few (goal.at.list-n-requires c).After-floor_log2-k, most)), c.requires.1)
 
 -- NO_CUT stands behind the cuts, before the table
 behind : (l : After-list-n) → CUTS + l.list-n.result < CUTS + 12
 behind l =
-    omega (arith, few l.before.before, most_cuts l.args.order l.args.pattern.now l.floor_log2-k.result l.floor_log2-k.ensures, l.list-n.ensures.0)
+    omega (arith, few (up l).After-floor_log2-k, most_cuts l.args.order l.args.pattern.now l.floor_log2-k.result l.floor_log2-k.ensures, l.list-n.ensures.0)
 
 -- the slice is as long as it was
 size : (l : After-list-n) → let a = l.args in
@@ -45,11 +37,11 @@ size l =
     let a = l.args in
     let m = PATTERN + length a.pattern.now - PATTERN in
     let k = CUTS + l.floor_log2-k.result + 1 - CUTS in
-    cuts_length a.work.now l.write.new.ranks _ l.list-n.new.cuts m k l.requires.2 (omega (arith, l.requires.1)) l.write.auto.1.1.0 refl (omega (arith, few l.before.before)) l.list-n.auto.1.1.0
+    cuts_length a.work.now l.write.new.ranks _ l.list-n.new.cuts m k l.requires.2 (omega (arith, l.requires.1)) l.write.auto.ranks refl (omega (arith, few (up l).After-floor_log2-k)) l.list-n.auto.cuts
 
 pub put-requires : goal.put-requires
 put-requires c =
-    omega (arith, size c.before.before.before.before, behind c.before.before.before.before, c.requires.2)
+    omega (arith, size (goal.at.put-requires c).After-list-n, behind (goal.at.put-requires c).After-list-n, c.requires.2)
 
 pub returns : goal.returns
 returns c text chair h =
@@ -62,19 +54,19 @@ returns c text chair h =
     let most = most_cuts a.order p c.floor_log2-k.result c.floor_log2-k.ensures in
     subst (Counting a.order p text chair (length p) c.list-n.result 0) (sym c.put.ensures)
     (counting_start a.order p text chair a.work.now c.write.new.ranks v c.list-n.new.cuts m k c.list-n.result h q (omega arith)
-    c.write.ensures refl c.list-n.ensures.0 (omega (arith, most)) (omega (arith, few c.before.before.before.before.before.before.before.before.before)) c.list-n.ensures.1)
+    c.write.ensures refl c.list-n.ensures.0 (omega (arith, most)) (omega (arith, few (goal.at.returns c).After-floor_log2-k)) c.list-n.ensures.1)
 
 pub overflow_add-k : goal.overflow_add-k
-overflow_add-k c = omega (arith, few c.before)
+overflow_add-k c = omega (arith, few (goal.at.overflow_add-k c).After-floor_log2-k)
 
 pub overflow_add-k-2 : goal.overflow_add-k-2
-overflow_add-k-2 c = omega (arith, few c.before)
+overflow_add-k-2 c = omega (arith, few (goal.at.overflow_add-k-2 c).After-floor_log2-k)
 
 pub slice_bounds-list-end : goal.slice_bounds-list-end
-slice_bounds-list-end c = omega (arith, few c.before)
+slice_bounds-list-end c = omega (arith, few (goal.at.slice_bounds-list-end c).After-floor_log2-k)
 
 pub overflow_add-n : goal.overflow_add-n
-overflow_add-n c = omega (arith, behind c.before.before.before.before)
+overflow_add-n c = omega (arith, behind (goal.at.overflow_add-n c).After-list-n)
 
 pub shape_of-work : goal.shape_of-work
-shape_of-work c = c.put.auto.0 ∙ size c.before.before.before.before.before.before.before
+shape_of-work c = c.put.auto.s ∙ size (goal.at.shape_of-work c).After-list-n

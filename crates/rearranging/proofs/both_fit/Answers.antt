@@ -15,9 +15,9 @@ returns-in_default c =
     let text = a.text.now in
     refused_already (text_too_long text ∷ []) (length text) c.text_fits-a.ensures c.in_default.is (result_too_short (length text) a.n ∷ [])
 
-pub returns-in_default : goal.returns
+pub returns : goal.returns
 unfolding first_met
-returns-in_default c =
+returns c =
     let a = c.args in
     let text = a.text.now in
     let (q, g) = done_met (text_too_long text) (length text) c.text_fits-a.ensures c.in-Done.is in

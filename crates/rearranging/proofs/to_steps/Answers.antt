@@ -4,24 +4,19 @@ use Rattle.definitions.specs.Steps.{to_steps}
 use Rattle.definitions.specs.Services.{to_steps_service}
 use Rattle.lyndon.specs.Steps.{to_length}
 use Rattle.rearranging.proofs.Fitting.{Judged, both_refused, both_fit, both_written}
-use Rattle.rearranging.proofs.to_steps.Lts as lts
-use Rattle.rearranging.proofs.to_steps.Reads as reads
-use Rattle.rearranging.proofs.to_steps.Tie as tie
+use Rattle.rearranging.proofs.to_steps.Goals.{After-both_fit-a}
 use Rattle.rearranging.proofs.to_steps.Goals as goal
 
-abbrev After-both_fit-a : Type 0
-After-both_fit-a = lts.After-both_fit tie.the-claims reads.Pre reads.Post
-
-judged : (f : After-both_fit-a) → let a = f.args in Judged a.text.now (to_steps a.text.now) a.result.now f.both_fit-a.result
+judged : (f : After-both_fit-a) → let a = f.args in Judged a.text.now (to_steps a.text.now) a.res.now f.both_fit-a.result
 judged f = record { size = to_length f.args.text.now; answer = f.both_fit-a.ensures }
 
 pub returns-in_default : goal.returns-in_default
 unfolding to_steps_service
-returns-in_default c = both_refused (judged c.before.before.before) c.in_default.is
+returns-in_default c = both_refused (judged (goal.at.returns-in_default c).After-both_fit-a) c.in_default.is
 
 pub rearrange-requires : goal.rearrange-requires
-rearrange-requires c = both_fit (judged c.before.before.before.before) c.in-Done.is
+rearrange-requires c = both_fit (judged (goal.at.rearrange-requires c).After-both_fit-a) c.in-Done.is
 
-pub returns-in_default : goal.returns
+pub returns : goal.returns
 unfolding to_steps_service
-returns-in_default c = both_written (judged c.before.before.before.before.before.before.before) c.in-Done.is c.rearrange.ensures
+returns c = both_written (judged (goal.at.returns c).After-both_fit-a) c.in-Done.is c.rearrange.ensures

@@ -16,13 +16,8 @@ use Rattle.decoding.specs.Decoding.{rule_in}
 use Rattle.rule_finds.specs.Searching.{FoundFor}
 use Rattle.rule_finds.proofs.Counting.{PairKnown, turn_known, pair_known, pair_found, pair_tests}
 use Rattle.rule_finds.proofs.Short.{long_pair, short_found, short_tests}
-use Rattle.rule_finds.proofs.found_in.Lts as lts
-use Rattle.rule_finds.proofs.found_in.Reads as reads
-use Rattle.rule_finds.proofs.found_in.Tie as tie
+use Rattle.rule_finds.proofs.found_in.Goals.{After-right_in-v}
 use Rattle.rule_finds.proofs.found_in.Goals as goal
-
-abbrev After-right_in-v : Type 0
-After-right_in-v = lts.After-right_in tie.the-claims reads.Pre reads.Post
 
 pub found_of_one-requires : goal.found_of_one-requires
 found_of_one-requires c =
@@ -67,23 +62,23 @@ known c = pair_known c.requires.0 c.left_in-u.result c.right_in-v.result (is_pai
 pub test_join-joined-requires : goal.test_join-joined-requires
 test_join-joined-requires c =
     let h = c.requires.0 in
-    (h.counting.tried, c.requires.1, omega (arith, (known c.before.before.before.before).inside, c.place_of-at.ensures, c.length_of-right.ensures, c.length_of-left.ensures), (turn_known h).long, c.requires.2)
+    (h.counting.tried, c.requires.1, omega (arith, (known (goal.at.test_join-joined-requires c).After-right_in-v).inside, c.place_of-at.ensures, c.length_of-right.ensures, c.length_of-left.ensures), (turn_known h).long, c.requires.2)
 
 packed_small : (x : ℕ) → x / PACK ≡ min 1 (x % PACK) → x < 2 * PACK
 packed_small x e = omega arith
 
 pub found-requires : goal.found-requires
 found-requires c =
-    let k = known c.before.before.before.before.before in
+    let k = known (goal.at.found-requires c).After-right_in-v in
     (k.left, k.right, k.most, k.apart, packed_small c.test_join-joined.result.found c.test_join-joined.ensures.0.number)
 
-pub returns-then-m-lt2 : goal.returns
-returns-then-m-lt2 c h =
+pub returns : goal.returns
+returns c h =
     let x = c.test_join-joined.result.found in
     let packed = c.test_join-joined.ensures.0 in (
-      pair_found h c.left_in-u.result c.right_in-v.result (is_pair_lem c.before.before.before.before.before.before) c.place_of-at.result c.length_of-left.result c.length_of-right.result (x % PACK) c.found.result
+      pair_found h c.left_in-u.result c.right_in-v.result (is_pair_lem (goal.at.returns c).After-right_in-v) c.place_of-at.result c.length_of-left.result c.length_of-right.result (x % PACK) c.found.result
           c.place_of-at.ensures c.length_of-left.ensures c.length_of-right.ensures packed.cut (omega (arith, c.found.ensures.0, packed.number)) c.found.ensures.1,
-      pair_tests h c.left_in-u.result c.right_in-v.result (is_pair_lem c.before.before.before.before.before.before) c.length_of-left.result c.length_of-right.result _ c.test_join-joined.result.tests
+      pair_tests h c.left_in-u.result c.right_in-v.result (is_pair_lem (goal.at.returns c).After-right_in-v) c.length_of-left.result c.length_of-right.result _ c.test_join-joined.result.tests
           c.length_of-left.ensures c.length_of-right.ensures c.test_join-joined.ensures.1,
     )
 
@@ -97,10 +92,10 @@ pub right_in-v-requires : goal.right_in-v-requires
 right_in-v-requires c = turn_known c.requires.0
 
 pub length_of-left-requires : goal.length_of-left-requires
-length_of-left-requires c = (known c.before).left
+length_of-left-requires c = (known (goal.at.length_of-left-requires c).After-right_in-v).left
 
 pub length_of-right-requires : goal.length_of-right-requires
-length_of-right-requires c = (known c.before.before).right
+length_of-right-requires c = (known (goal.at.length_of-right-requires c).After-right_in-v).right
 
 pub place_of-at-requires : goal.place_of-at-requires
 place_of-at-requires c = turn_known c.requires.0

@@ -28,8 +28,8 @@ returns-then-a-work c h =
     symbol_found h PACK true
     (eq-eqb (get_or a.work.now PATTERN 0) (get_or a.work.now (place_in a.work.now a.r) 0) (sym c.if-a-work.true ∙ here a.work.now a.r c.place_of.result c.place_of.ensures)) refl refl
 
-pub returns-then-a-work : goal.returns
-returns-then-a-work c h =
+pub returns : goal.returns
+returns c h =
     let a = c.args in
     symbol_found h 0 false
     (ne_eqb (get_or a.work.now PATTERN 0) (get_or a.work.now (place_in a.work.now a.r) 0)

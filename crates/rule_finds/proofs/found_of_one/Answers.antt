@@ -7,13 +7,8 @@ use Rattle.decoding.specs.declared.Rule.TheVariants.{Pair}
 use Rattle.decoding.specs.Decoding.{rule_in}
 use Rattle.joins.proofs.Joining.{join_one}
 use Rattle.rule_finds.proofs.Counting.{PairKnown, turn_known, pair_known, pair_found}
-use Rattle.rule_finds.proofs.found_of_one.Lts as lts
-use Rattle.rule_finds.proofs.found_of_one.Reads as reads
-use Rattle.rule_finds.proofs.found_of_one.Tie as tie
+use Rattle.rule_finds.proofs.found_of_one.Goals.{In-Pair}
 use Rattle.rule_finds.proofs.found_of_one.Goals as goal
-
-abbrev In-Pair-2 : Type 0
-In-Pair-2 = lts.After-rule tie.the-claims reads.Pre reads.Post
 
 pub found_in_symbol-requires : goal.found_in_symbol-requires
 found_in_symbol-requires c =
@@ -24,27 +19,27 @@ returns-in_default c h =
     c.found_in_symbol.ensures record { one = h; number = c.in_default.field-0; beside = c.in_default.field-1; rule = sym c.rule_in-rule.ensures ∙ c.in_default.is }
 
 -- the rule is read as a pair
-is_pair_lem : (c : In-Pair-2) → let a = c.args in rule_in a.work.now a.r ≡ Pair c.rule-1.given.0.0 c.rule-1.given.0.1.0
-is_pair_lem c = sym c.rule_in-rule.ensures ∙ c.rule-1.given.1
+is_pair_lem : (c : In-Pair) → let a = c.args in rule_in a.work.now a.r ≡ Pair c.in-Pair.u c.in-Pair.v
+is_pair_lem c = sym c.rule_in-rule.ensures ∙ c.in-Pair.is
 
-known : (c : In-Pair-2) → let a = c.args in
-    PairKnown c.rule-1.given.0.0 c.rule-1.given.0.1.0 (place_in a.work.now a.r) a.work.now
-known c = pair_known c.requires.turn c.rule-1.given.0.0 c.rule-1.given.0.1.0 (is_pair_lem c)
+known : (c : In-Pair) → let a = c.args in
+    PairKnown c.in-Pair.u c.in-Pair.v (place_in a.work.now a.r) a.work.now
+known c = pair_known c.requires.turn c.in-Pair.u c.in-Pair.v (is_pair_lem c)
 
 pub found-requires : goal.found-requires
 found-requires c =
-    let k = known c.before.before in
+    let k = known (goal.at.found-requires c).In-Pair in
     (k.left, k.right, k.most, k.apart, omega arith)
 
-pub returns-in_default : goal.returns
-returns-in_default c h =
+pub returns : goal.returns
+returns c h =
     let a = c.args in
     let w = a.work.now in
     let u = c.in-Pair.u in
     let v = c.in-Pair.v in
     let t = h.turn in
-    pair_found t u v (is_pair_lem c.before.before.before) (place_in w a.r) (length_in w u) (length_in w v) 0 c.found.result refl refl refl
-    (join_one w h.size h.cuts (place_in w a.r) (length_in w u) (length_in w v) t.counting.tried (known c.before.before.before).inside (turn_known t).long h.short)
+    pair_found t u v (is_pair_lem (goal.at.returns c).In-Pair) (place_in w a.r) (length_in w u) (length_in w v) 0 c.found.result refl refl refl
+    (join_one w h.size h.cuts (place_in w a.r) (length_in w u) (length_in w v) t.counting.tried (known (goal.at.returns c).In-Pair).inside (turn_known t).long h.short)
     (omega (arith, c.found.ensures.0)) (omega (arith, c.found.ensures.1))
 
 pub rule_in-rule-requires : goal.rule_in-rule-requires

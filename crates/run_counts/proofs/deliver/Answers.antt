@@ -13,13 +13,8 @@ use Rattle.key_counts.specs.Keys.{count_of, distinct_keys}
 use Rattle.run_counts.specs.Runs.{runs_number}
 use Rattle.run_counts.specs.Census.{census_runs_lem, census_counts_lem}
 use Rattle.run_counts.proofs.Listed.{listed_front, listed_fits, listed_served}
-use Rattle.run_counts.proofs.deliver.Lts as lts
-use Rattle.run_counts.proofs.deliver.Reads as reads
-use Rattle.run_counts.proofs.deliver.Tie as tie
+use Rattle.run_counts.proofs.deliver.Goals.{After-write_keys-n}
 use Rattle.run_counts.proofs.deliver.Goals as goal
-
-abbrev After-write_keys-n : Type 0
-After-write_keys-n = lts.After-write_keys tie.the-claims reads.Pre reads.Post
 
 abbrev zeros : List ℕ
 zeros = replicate 2047 0
@@ -40,18 +35,18 @@ bytes c =
 
 pub slice_bounds-deliver_keys-end : goal.slice_bounds-deliver_keys-end
 slice_bounds-deliver_keys-end c =
-    listed_fits (keys_in c.before.before) zeros c.write_keys-n.new.keys c.write_keys-n.result (size c.before.before) c.write_keys-n.ensures.keys_after
+    listed_fits (keys_in (goal.at.slice_bounds-deliver_keys-end c).After-write_keys-n) zeros c.write_keys-n.new.keys c.write_keys-n.result (size (goal.at.slice_bounds-deliver_keys-end c).After-write_keys-n) c.write_keys-n.ensures.keys_after
 
 pub deliver_keys-requires : goal.deliver_keys-requires
 deliver_keys-requires c =
-    (c.requires.1, omega (arith, ap length (keys c.before.before.before.before.before), length-map (runs_of c.args.q c.args.text.now) (key_of sample_order), runs_number sample_order c.args.q c.args.text.now (bytes c.before.before.before.before.before), c.requires.0, c.requires.2))
+    (c.requires.1, omega (arith, ap length (keys (goal.at.deliver_keys-requires c).After-write_keys-n), length-map (runs_of c.args.q c.args.text.now) (key_of sample_order), runs_number sample_order c.args.q c.args.text.now (bytes (goal.at.deliver_keys-requires c).After-write_keys-n), c.requires.0, c.requires.2))
 
 pub returns : goal.returns
 returns c =
     let q = c.args.q in
     let text = c.args.text.now in
-    let k = keys c.before.before.before.before.before.before.before.before.before.before in
+    let k = keys (goal.at.returns c).After-write_keys-n in
     listed_served
-    (ap (λ (x : List ℕ). joined (map (run_with sample_order q) (distinct_keys x))) k ∙ ap joined (census_runs_lem sample_order q text (bytes c.before.before.before.before.before.before.before.before.before.before)))
-    (ap (λ (x : List ℕ). map (count_of x) (distinct_keys x)) k ∙ census_counts_lem sample_order q text (bytes c.before.before.before.before.before.before.before.before.before.before) c.requires.0)
+    (ap (λ (x : List ℕ). joined (map (run_with sample_order q) (distinct_keys x))) k ∙ ap joined (census_runs_lem sample_order q text (bytes (goal.at.returns c).After-write_keys-n)))
+    (ap (λ (x : List ℕ). map (count_of x) (distinct_keys x)) k ∙ census_counts_lem sample_order q text (bytes (goal.at.returns c).After-write_keys-n) c.requires.0)
     c.deliver_keys.ensures

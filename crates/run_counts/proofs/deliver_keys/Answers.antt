@@ -10,13 +10,8 @@ use Rattle.definitions.specs.Census.{joined}
 use Rattle.run_keys.specs.Keys.{run_with}
 use Rattle.key_counts.specs.Keys.{count_of, distinct_keys, distinct_length}
 use Rattle.run_counts.proofs.Listed.{listed_front, listed_fits, listed_served}
-use Rattle.run_counts.proofs.deliver_keys.Lts as lts
-use Rattle.run_counts.proofs.deliver_keys.Reads as reads
-use Rattle.run_counts.proofs.deliver_keys.Tie as tie
+use Rattle.run_counts.proofs.deliver_keys.Goals.{After-list_keys-n}
 use Rattle.run_counts.proofs.deliver_keys.Goals as goal
-
-abbrev After-list_keys-n : Type 0
-After-list_keys-n = lts.After-list_keys tie.the-claims reads.Pre reads.Post
 
 abbrev zeros : List ℕ
 zeros = replicate 2047 0
@@ -39,18 +34,18 @@ numbers c = listed_front (counts_in c) zeros c.list_keys-n.new.counts c.list_key
 
 pub slice_bounds-deliver_listed-end : goal.slice_bounds-deliver_listed-end
 slice_bounds-deliver_listed-end c =
-    listed_fits (keys_in c.before.before.before) zeros c.list_keys-n.new.listed c.list_keys-n.result c.list_keys-n.ensures.value c.list_keys-n.ensures.listed_after.0
+    listed_fits (keys_in (goal.at.slice_bounds-deliver_listed-end c).After-list_keys-n) zeros c.list_keys-n.new.listed c.list_keys-n.result c.list_keys-n.ensures.value c.list_keys-n.ensures.listed_after.0
 
 pub slice_bounds-deliver_listed-end-2 : goal.slice_bounds-deliver_listed-end-2
 slice_bounds-deliver_listed-end-2 c =
-    listed_fits (counts_in c.before.before.before.before) zeros c.list_keys-n.new.counts c.list_keys-n.result (size c.before.before.before.before) c.list_keys-n.ensures.listed_after.1
+    listed_fits (counts_in (goal.at.slice_bounds-deliver_listed-end-2 c).After-list_keys-n) zeros c.list_keys-n.new.counts c.list_keys-n.result (size (goal.at.slice_bounds-deliver_listed-end-2 c).After-list_keys-n) c.list_keys-n.ensures.listed_after.1
 
 pub deliver_listed-requires : goal.deliver_listed-requires
 deliver_listed-requires c =
     let few = distinct_length c.args.keys.now in
-    (c.requires.0, omega (arith, ap length (keys c.before.before.before.before.before.before.before), c.requires.1), omega (arith, ap length (keys c.before.before.before.before.before.before.before), ap length (numbers c.before.before.before.before.before.before.before), length-map (keys_in c.before.before.before.before.before.before.before) (count_of c.args.keys.now)))
+    (c.requires.0, omega (arith, ap length (keys (goal.at.deliver_listed-requires c).After-list_keys-n), c.requires.1), omega (arith, ap length (keys (goal.at.deliver_listed-requires c).After-list_keys-n), ap length (numbers (goal.at.deliver_listed-requires c).After-list_keys-n), length-map (keys_in (goal.at.deliver_listed-requires c).After-list_keys-n) (count_of c.args.keys.now)))
 
 pub returns : goal.returns
 returns c =
     let a = c.args in
-    listed_served (ap (λ (k : List ℕ). joined (map (run_with sample_order a.q) k)) (keys c.before.before.before.before.before.before.before.before.before.before.before.before)) (numbers c.before.before.before.before.before.before.before.before.before.before.before.before) c.deliver_listed.ensures
+    listed_served (ap (λ (k : List ℕ). joined (map (run_with sample_order a.q) k)) (keys (goal.at.returns c).After-list_keys-n)) (numbers (goal.at.returns c).After-list_keys-n) c.deliver_listed.ensures

@@ -7,16 +7,8 @@ use Rattle.definitions.specs.Table.{rank_of}
 use Rattle.definitions.specs.Services.{sample_order}
 use Rattle.run_keys.specs.Keys.{key_of}
 use Rattle.run_keys.proofs.Writing.{key_none, key_step, key_all}
-use Rattle.run_keys.proofs.key_of.Lts as lts
-use Rattle.run_keys.proofs.key_of.Reads as reads
-use Rattle.run_keys.proofs.key_of.Tie as tie
+use Rattle.run_keys.proofs.key_of.Goals.{After-rank_of, In-loop-i}
 use Rattle.run_keys.proofs.key_of.Goals as goal
-
-abbrev In-loop-i : Type 0
-In-loop-i = lts.In-loop tie.the-claims reads.Pre reads.Post goal.the-invariant-loop-i goal.the-decreases-loop-i
-
-abbrev After-rank_of : Type 0
-After-rank_of = lts.After-rank_of tie.the-claims reads.Pre reads.Post goal.the-invariant-loop-i goal.the-decreases-loop-i
 
 pub loop-i-init : goal.loop-i-init
 loop-i-init c = (omega arith, key_none c.args.run.now)
@@ -35,23 +27,23 @@ made c r e =
 pub overflow_mul-key : goal.overflow_mul-key
 overflow_mul-key c =
     let r = rank_of sample_order (get_or c.args.run.now c.loop-i.i 0) in
-    omega (arith, (made c.before r refl).2)
+    omega (arith, (made (goal.at.overflow_mul-key c).In-loop-i r refl).2)
 
-more : (c : After-rank_of) → Made c.before.before c.rank_of.result
-more c = made c.before.before c.rank_of.result c.rank_of.ensures
+more : (c : After-rank_of) → Made (up c).In-loop-i c.rank_of.result
+more c = made (up c).In-loop-i c.rank_of.result c.rank_of.ensures
 
 pub returns : goal.returns
 returns c =
     key_all c.args.run.now c.loop-i.i c.loop-i.key (omega arith) c.loop-i.invariant.1
 
 pub overflow_sub-key : goal.overflow_sub-key
-overflow_sub-key c = omega (arith, (more c.before).0)
+overflow_sub-key c = omega (arith, (more (goal.at.overflow_sub-key c).After-rank_of).0)
 
 pub overflow_cast-key : goal.overflow_cast-key
-overflow_cast-key c = omega (arith, (more c.before).1)
+overflow_cast-key c = omega (arith, (more (goal.at.overflow_cast-key c).After-rank_of).1)
 
 pub overflow_add-key : goal.overflow_add-key
-overflow_add-key c = omega (arith, (more c.before).2)
+overflow_add-key c = omega (arith, (more (goal.at.overflow_add-key c).After-rank_of).2)
 
 pub loop-i-preserved : goal.loop-i-preserved
-loop-i-preserved c = (omega arith, (more c.before).3)
+loop-i-preserved c = (omega arith, (more (goal.at.loop-i-preserved c).After-rank_of).3)

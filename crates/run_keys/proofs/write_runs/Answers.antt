@@ -5,13 +5,8 @@ use native.Mathlib.Omega.{arith}
 use lib.ListN.{length, length-take, length-drop}
 use Rattle.lists.specs.Lists.{Fronted}
 use Rattle.run_keys.proofs.Writing.{runs_to, runs_none, runs_room, runs_stored, runs_all}
-use Rattle.run_keys.proofs.write_runs.Lts as lts
-use Rattle.run_keys.proofs.write_runs.Reads as reads
-use Rattle.run_keys.proofs.write_runs.Tie as tie
+use Rattle.run_keys.proofs.write_runs.Goals.{In-loop-i}
 use Rattle.run_keys.proofs.write_runs.Goals as goal
-
-abbrev In-loop-i : Type 0
-In-loop-i = lts.In-loop tie.the-claims reads.Pre reads.Post goal.the-invariant-loop-i goal.the-decreases-loop-i
 
 pub loop-i-init : goal.loop-i-init
 loop-i-init c =
@@ -24,11 +19,11 @@ room t =
     runs_room t.args.q t.args.keys.now t.loop-i.i (omega arith) t.requires.2 t.loop-i.invariant.2
 
 pub write_run-requires : goal.write_run-requires
-write_run-requires c = simp (length-take, length-drop) (omega (arith, room c.before.before.before))
+write_run-requires c = simp (length-take, length-drop) (omega (arith, room (goal.at.write_run-requires c).In-loop-i))
 
 pub loop-i-preserved : goal.loop-i-preserved
 loop-i-preserved c =
-    let more = runs_stored c.args.q c.args.keys.now c.loop-i.i (omega arith) (room c.before.before.before.before.before.before) refl c.loop-i.invariant.2 c.write_run.ensures in
+    let more = runs_stored c.args.q c.args.keys.now c.loop-i.i (omega arith) (room (goal.at.loop-i-preserved c).In-loop-i) refl c.loop-i.invariant.2 c.write_run.ensures in
     (omega arith, more.0, more.1)
 
 pub returns : goal.returns
@@ -37,13 +32,13 @@ returns c =
     runs_all a.q a.keys.now c.loop-i.i (omega arith) c.loop-i.invariant.2
 
 pub slice_bounds-write_run-count : goal.slice_bounds-write_run-count
-slice_bounds-write_run-count c = omega (arith, room c.before.before)
+slice_bounds-write_run-count c = omega (arith, room (goal.at.slice_bounds-write_run-count c).In-loop-i)
 
 pub slice_bounds-write_run-start : goal.slice_bounds-write_run-start
-slice_bounds-write_run-start c = omega (arith, room c.before.before)
+slice_bounds-write_run-start c = omega (arith, room (goal.at.slice_bounds-write_run-start c).In-loop-i)
 
 pub overflow_add-n : goal.overflow_add-n
-overflow_add-n c = omega (arith, room c.before.before.before.before.before.before)
+overflow_add-n c = omega (arith, room (goal.at.overflow_add-n c).In-loop-i)
 
 pub shape_of-runs : goal.shape_of-runs
 shape_of-runs c = c.loop-i.invariant.1

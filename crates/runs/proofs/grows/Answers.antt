@@ -13,7 +13,7 @@ returns-then-d-y c =
     let a = c.args in
     simp (le-ltb a.d (length a.y.now) (omega (arith, c.if-d-y.true)))
 
-pub returns-then-d-y : goal.returns
-returns-then-d-y c =
+pub returns : goal.returns
+returns c =
     let a = c.args in
     rw (lt-ltb a.d (length a.y.now) (omega (arith, c.if-d-y.false, c.requires))) (ap₂ {C = Bool} ltb c.rank_of.ensures c.rank_of-2.ensures)

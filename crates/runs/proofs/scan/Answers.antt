@@ -82,8 +82,8 @@ run_of-requires-2 c =
     let e = samples_ended a.order a.pattern.now a.start c.loop-word.word c.loop-word.invariant c.loop-word-test.false in
     omega (arith, c.requires, samples_within a.order a.pattern.now a.start c.loop-word.word c.loop-word.invariant 0 e)
 
-pub returns-then-not-grows : goal.returns
-returns-then-not-grows c =
+pub returns : goal.returns
+returns c =
     let a = c.args in
     let r = c.run_of-2.result in
     let e = samples_ended a.order a.pattern.now a.start c.loop-word.word c.loop-word.invariant c.loop-word-test.false in

@@ -15,22 +15,8 @@ use Rattle.rule_finds.specs.Searching.{Counting, Counts}
 use Rattle.rule_finds.proofs.Short.{short_text, short_search, short_all}
 use Rattle.placing.proofs.Placing.{pattern_here}
 use Rattle.search.proofs.Ending.{counted_text, counted_all}
-use Rattle.search.proofs.count.Lts as lts
-use Rattle.search.proofs.count.Reads as reads
-use Rattle.search.proofs.count.Tie as tie
+use Rattle.search.proofs.count.Goals.{After-count_rules-tests, After-number_of-all, After-place_pattern-n, Start}
 use Rattle.search.proofs.count.Goals as goal
-
-abbrev Start : Type 0
-Start = lts.Start tie.the-claims reads.Pre reads.Post
-
-abbrev After-place_pattern-n : Type 0
-After-place_pattern-n = lts.After-place_pattern tie.the-claims reads.Pre reads.Post
-
-abbrev After-count_rules-tests : Type 0
-After-count_rules-tests = lts.After-count_rules tie.the-claims reads.Pre reads.Post
-
-abbrev After-number_of-all : Type 0
-After-number_of-all = lts.After-number_of tie.the-claims reads.Pre reads.Post
 
 -- the number of rules
 range : (s : Start) → (0 < s.args.rules) × (s.args.rules ≤ 2304)
@@ -41,7 +27,7 @@ range s =
 
 pub is_shorter-requires : goal.is_shorter-requires
 is_shorter-requires c =
-    (record { low = omega (arith, range c.before.before.before); long = omega (arith, c.requires.0.loaded.kept.long) }, c.requires.2)
+    (record { low = omega (arith, range (goal.at.is_shorter-requires c).Start); long = omega (arith, c.requires.0.loaded.kept.long) }, c.requires.2)
 
 pub returns-then-is_shorter : goal.returns-then-is_shorter
 returns-then-is_shorter c text chair h e =
@@ -75,14 +61,14 @@ placed p =
 
 pub passed_over-before-requires : goal.passed_over-before-requires
 passed_over-before-requires c =
-    (c.place_pattern-n.result, placed c.before.before.before, c.requires.3)
+    (c.place_pattern-n.result, placed (goal.at.passed_over-before-requires c).After-place_pattern-n, c.requires.3)
 
 pub count_rules-tests-requires : goal.count_rules-tests-requires
-count_rules-tests-requires c = placed c.before.before.before.before.before
+count_rules-tests-requires c = placed (goal.at.count_rules-tests-requires c).After-place_pattern-n
 
 pub number_of-all-requires : goal.number_of-all-requires
 number_of-all-requires c =
-    record { low = omega (arith, range c.before.before.before.before.before.before.before.before.before.before.before.before.before.before); long = omega (arith, c.requires.0.loaded.kept.long) }
+    record { low = omega (arith, range (goal.at.number_of-all-requires c).Start); long = omega (arith, c.requires.0.loaded.kept.long) }
 
 -- every rule is counted, whatever text is loaded, and the tests are
 all_counted : (r : After-count_rules-tests) → let a = r.args in
@@ -101,31 +87,31 @@ both c text chair h e =
     let a = c.args in
     let n = c.place_pattern-n.result in
     let w = c.count_rules-tests.new.work in
-    let (counted, _) = all_counted c.before.before.before text chair h e in
+    let (counted, _) = all_counted (up c).After-count_rules-tests text chair h e in
     let all = counted_all a.order a.pattern.now text chair _ n a.rules w e counted in
     c.passed_over-before.ensures a.order a.pattern.now text chair n (c.place_pattern-n.ensures text chair h) e
-    ∙ sym (c.number_of-all.ensures ∙ counted_text a.order a.pattern.now text chair a.rules w (range c.before.before.before.before.before.before.before.before.before.before.before.before.before.before).0 e all)
+    ∙ sym (c.number_of-all.ensures ∙ counted_text a.order a.pattern.now text chair a.rules w (range (up c).Start).0 e all)
 
 pub overflow_sub-result : goal.overflow_sub-result
 overflow_sub-result c =
     let h = c.requires.0 in
-    omega (arith, both c.before h.text h.chair h.loaded h.size)
+    omega (arith, both (goal.at.overflow_sub-result c).After-number_of-all h.text h.chair h.loaded h.size)
 
-pub returns-then-is_shorter : goal.returns
-returns-then-is_shorter c text chair h e =
+pub returns : goal.returns
+returns c text chair h e =
     let a = c.args in
-    let (counted, tests) = all_counted c.before.before.before.before text chair h e in
+    let (counted, tests) = all_counted (goal.at.returns c).After-count_rules-tests text chair h e in
     let all = counted_all a.order a.pattern.now text chair _ c.place_pattern-n.result a.rules c.count_rules-tests.new.work e counted in
-    (omega (arith, both c.before text chair h e), tests, all)
+    (omega (arith, both (goal.at.returns c).After-number_of-all text chair h e), tests, all)
 
 pub overflow_sub-rules : goal.overflow_sub-rules
-overflow_sub-rules c = omega (arith, range c.before.before.before)
+overflow_sub-rules c = omega (arith, range (goal.at.overflow_sub-rules c).Start)
 
 pub overflow_add-rules : goal.overflow_add-rules
-overflow_add-rules c = omega (arith, range c.before.before.before.before.before)
+overflow_add-rules c = omega (arith, range (goal.at.overflow_add-rules c).Start)
 
 pub slice_bounds-clear-end : goal.slice_bounds-clear-end
-slice_bounds-clear-end c = omega (arith, range c.before.before.before.before.before, c.requires.0.loaded.kept.long)
+slice_bounds-clear-end c = omega (arith, range (goal.at.slice_bounds-clear-end c).Start, c.requires.0.loaded.kept.long)
 
 pub overflow_sub-rules-2 : goal.overflow_sub-rules-2
-overflow_sub-rules-2 c = omega (arith, range c.before.before.before.before.before.before.before.before.before.before.before.before.before.before)
+overflow_sub-rules-2 c = omega (arith, range (goal.at.overflow_sub-rules-2 c).Start)

@@ -6,13 +6,8 @@ use lib.ListN.{length}
 use Rattle.lyndon.specs.Stored.{rule_range}
 use Rattle.joins.specs.Joining.{longest_tail}
 use Rattle.rule_finds.proofs.Counting.{Counted, counted_none, counted_turn, counted_end, few_tests, longest_kept}
-use Rattle.search.proofs.count_rules.Lts as lts
-use Rattle.search.proofs.count_rules.Reads as reads
-use Rattle.search.proofs.count_rules.Tie as tie
+use Rattle.search.proofs.count_rules.Goals.{Start}
 use Rattle.search.proofs.count_rules.Goals as goal
-
-abbrev Start : Type 0
-Start = lts.Start tie.the-claims reads.Pre reads.Post goal.the-invariant-loop-r goal.the-decreases-loop-r
 
 -- rule r of those that are counted
 low : (s : Start) (r : ℕ) → r < s.args.rules → r < 2304
@@ -31,26 +26,26 @@ found_in-x-requires c =
         low = omega (arith, h.size, c.loop-r-test.true);
       },
       c.loop-r.invariant.3,
-      omega (arith, few_tests a.m a.n a.rules c.loop-r.r c.loop-r.tests a.work.now c.loop-r.work h c.loop-r.invariant.2, low c.before.before.before.before.before c.loop-r.r c.loop-r-test.true),
+      omega (arith, few_tests a.m a.n a.rules c.loop-r.r c.loop-r.tests a.work.now c.loop-r.work h c.loop-r.invariant.2, low (goal.at.found_in-x-requires c).Start c.loop-r.r c.loop-r-test.true),
     )
 
 pub overflow_add-r : goal.overflow_add-r
 overflow_add-r c =
-    omega (arith, low c.before.before.before.before.before.before.before c.loop-r.r c.loop-r-test.true)
+    omega (arith, low (goal.at.overflow_add-r c).Start c.loop-r.r c.loop-r-test.true)
 
 pub put-requires : goal.put-requires
 put-requires c =
-    omega (arith, low c.before.before.before.before.before.before.before c.loop-r.r c.loop-r-test.true, c.loop-r.invariant.1, c.requires.counting.loaded.kept.long)
+    omega (arith, low (goal.at.put-requires c).Start c.loop-r.r c.loop-r-test.true, c.loop-r.invariant.1, c.requires.counting.loaded.kept.long)
 
 pub loop-r-preserved : goal.loop-r-preserved
 loop-r-preserved c =
     let a = c.args in
     let x = c.found_in-x.result.found in (
       omega (arith, c.loop-r-test.true),
-      c.put.auto.0 ∙ c.loop-r.invariant.1,
+      c.put.auto.s ∙ c.loop-r.invariant.1,
       counted_turn a.m a.n a.rules c.loop-r.r c.loop-r.tests c.found_in-x.result.tests a.work.now c.loop-r.work c.put.new.s x
           c.loop-r-test.true c.loop-r.invariant.2 c.found_in-x.ensures c.put.ensures,
-      c.loop-r.invariant.3 ∙ sym (longest_kept a.m a.n c.loop-r.r c.loop-r.work c.put.new.s x (low c.before.before.before.before.before.before.before.before.before.before c.loop-r.r c.loop-r-test.true) c.put.ensures),
+      c.loop-r.invariant.3 ∙ sym (longest_kept a.m a.n c.loop-r.r c.loop-r.work c.put.new.s x (low (goal.at.loop-r-preserved c).Start c.loop-r.r c.loop-r-test.true) c.put.ensures),
     )
 
 pub returns : goal.returns

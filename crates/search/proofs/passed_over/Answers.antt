@@ -16,19 +16,8 @@ use Rattle.lyndon.specs.Stored.{rule_range}
 use Rattle.layout.specs.Layout.{PATTERN}
 use Rattle.rule_finds.specs.Searching.{Counting}
 use Rattle.search.proofs.Passing.{start, none_passed, unlike, first_passed}
-use Rattle.search.proofs.passed_over.Lts as lts
-use Rattle.search.proofs.passed_over.Reads as reads
-use Rattle.search.proofs.passed_over.Tie as tie
+use Rattle.search.proofs.passed_over.Goals.{After-equal_many, Else-length_of-m, Start}
 use Rattle.search.proofs.passed_over.Goals as goal
-
-abbrev Start : Type 0
-Start = lts.Start tie.the-claims reads.Pre reads.Post
-
-abbrev Else-length_of-m : Type 0
-Else-length_of-m = lts.Else2 tie.the-claims reads.Pre reads.Post
-
-abbrev After-equal_many : Type 0
-After-equal_many = lts.After-equal_many tie.the-claims reads.Pre reads.Post
 
 -- the number of rules, and how long pattern and work slice are
 range : (s : Start) → (0 < s.args.rules) × (s.args.rules ≤ 2304)
@@ -48,7 +37,7 @@ returns-then-from-eq0 c o p text chair n h e = rw c.if-from-eq0.true (zero-add (
 
 pub length_of-requires : goal.length_of-requires
 length_of-requires c =
-    record { low = omega (arith, range c.before.before.before); long = long c.before.before.before }
+    record { low = omega (arith, range (goal.at.length_of-requires c).Start); long = long (goal.at.length_of-requires c).Start }
 
 -- counting begins at the second place
 second : (s : Start) → (s.args.from ≡ 0 → ⊥) → s.args.from ≡ 1
@@ -57,7 +46,7 @@ second s h = omega (arith, s.requires.2)
 pub returns-then-length_of-m : goal.returns-then-length_of-m
 returns-then-length_of-m c o p text chair n h e =
     let a = c.args in
-    rw (second c.before.before.before.before.before c.if-from-eq0.false) (zero-add _ ∙ none_passed o p text chair a.m n a.rules a.work.now h e (omega (arith, c.length_of.ensures, c.if-length_of-m.true)))
+    rw (second (goal.at.returns-then-length_of-m c).Start c.if-from-eq0.false) (zero-add _ ∙ none_passed o p text chair a.m n a.rules a.work.now h e (omega (arith, c.length_of.ensures, c.if-length_of-m.true)))
 
 decided : (k : Else-length_of-m) → let a = k.args in
     (b : Bool) → same (part 1 a.m a.work.now) (part PATTERN a.m a.work.now) ≡ b
@@ -65,12 +54,12 @@ decided : (k : Else-length_of-m) → let a = k.args in
     → length (start b) + length (occurrences p (drop a.from text)) ≡ length (occurrences p text)
 decided k b f o p text chair n h e =
     let a = k.args in
-    rw (second k.before.before.before.before k.if-from-eq0.false) (first_passed o p text chair a.m n a.rules a.work.now h e (omega (arith, k.length_of.ensures, k.if-length_of-m.false)) b f)
+    rw (second (up k).Start k.if-from-eq0.false) (first_passed o p text chair a.m n a.rules a.work.now h e (omega (arith, k.length_of.ensures, k.if-length_of-m.false)) b f)
 
 pub returns-then-work : goal.returns-then-work
 returns-then-work c o p text chair n h e =
     let a = c.args in
-    decided c.before.before.before.before false (unlike o p text chair a.m n a.rules a.work.now h e c.if-work.true) o p text chair n h e
+    decided (goal.at.returns-then-work c).Else-length_of-m false (unlike o p text chair a.m n a.rules a.work.now h e c.if-work.true) o p text chair n h e
 
 compared : (c : After-equal_many) → let a = longer.args in same (part 1 a.m a.work.now) (part PATTERN a.m a.work.now) ≡ c.equal_many.result
 compared c =
@@ -79,25 +68,25 @@ compared c =
     ∙ ap₂ {C = Bool} same (part_taken 1 (a.m + 1 - 1) a.m a.work.now (omega arith)) (part_taken PATTERN (PATTERN + a.m - PATTERN) a.m a.work.now (omega arith)))
 
 pub returns-then-equal_many : goal.returns-then-equal_many
-returns-then-equal_many c o p text chair n h e = decided c.before.before.before.before.before.before.before.before true (compared c.before.before ∙ c.if-equal_many.true) o p text chair n h e
+returns-then-equal_many c o p text chair n h e = decided (goal.at.returns-then-equal_many c).Else-length_of-m true (compared (goal.at.returns-then-equal_many c).After-equal_many ∙ c.if-equal_many.true) o p text chair n h e
 
-pub returns-then-from-eq0 : goal.returns
-returns-then-from-eq0 c o p text chair n h e = decided c.before.before.before.before.before.before.before.before false (compared c.before.before ∙ c.if-equal_many.false) o p text chair n h e
+pub returns : goal.returns
+returns c o p text chair n h e = decided (goal.at.returns c).Else-length_of-m false (compared (goal.at.returns c).After-equal_many ∙ c.if-equal_many.false) o p text chair n h e
 
 pub overflow_sub-rules : goal.overflow_sub-rules
-overflow_sub-rules c = omega (arith, range c.before.before.before)
+overflow_sub-rules c = omega (arith, range (goal.at.overflow_sub-rules c).Start)
 
 pub bounds-work-1 : goal.bounds-work-1
-bounds-work-1 c = omega (arith, long c.before.before.before.before.before.before)
+bounds-work-1 c = omega (arith, long (goal.at.bounds-work-1 c).Start)
 
 pub bounds-work-8960 : goal.bounds-work-8960
-bounds-work-8960 c = omega (arith, long c.before.before.before.before.before.before.before)
+bounds-work-8960 c = omega (arith, long (goal.at.bounds-work-8960 c).Start)
 
 pub overflow_add-m : goal.overflow_add-m
-overflow_add-m c = omega (arith, short c.before.before.before.before.before.before.before.before)
+overflow_add-m c = omega (arith, short (goal.at.overflow_add-m c).Start)
 
 pub slice_bounds-equal_many-end : goal.slice_bounds-equal_many-end
-slice_bounds-equal_many-end c = omega (arith, short c.before.before.before.before.before.before.before.before, long c.before.before.before.before.before.before.before.before)
+slice_bounds-equal_many-end c = omega (arith, short (goal.at.slice_bounds-equal_many-end c).Start, long (goal.at.slice_bounds-equal_many-end c).Start)
 
 pub slice_bounds-equal_many-end-2 : goal.slice_bounds-equal_many-end-2
-slice_bounds-equal_many-end-2 c = omega (arith, short c.before.before.before.before.before.before.before.before.before, long c.before.before.before.before.before.before.before.before.before)
+slice_bounds-equal_many-end-2 c = omega (arith, short (goal.at.slice_bounds-equal_many-end-2 c).Start, long (goal.at.slice_bounds-equal_many-end-2 c).Start)

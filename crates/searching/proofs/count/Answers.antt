@@ -15,16 +15,8 @@ use Rattle.lists.specs.Serving.{refused_front, served, passed}
 use Rattle.checks.proofs.Patterns.{search_keeps, passed_search}
 use Rattle.results.proofs.Answers.{tests_done, search_refuses}
 use Rattle.opening.proofs.Services.{ready, opened_table, opening_refused, Succeeded, opening_done, opened_ready, opening_lent}
-use Rattle.searching.proofs.count.Lts as lts
-use Rattle.searching.proofs.count.Reads as reads
-use Rattle.searching.proofs.count.Tie as tie
+use Rattle.searching.proofs.count.Goals.{After-admit-a, In-Done-a-2}
 use Rattle.searching.proofs.count.Goals as goal
-
-abbrev After-admit-a : Type 0
-After-admit-a = lts.After-admit tie.the-claims reads.Pre reads.Post
-
-abbrev In-Done-a-2 : Type 0
-In-Done-a-2 = lts.After-a tie.the-claims reads.Pre reads.Post
 
 pub returns-in_default : goal.returns-in_default
 unfolding count_service
@@ -37,41 +29,41 @@ returns-in_default c =
 accepted : (m : After-admit-a) → let a = m.args in Passed (search_checks a.content a.pattern.now)
 accepted m =
     let a = m.args in
-    (done_all (search_checks a.content a.pattern.now) (length a.pattern.now) m.search_fits-p.ensures m.enum_told-1.given.1).0
+    (done_all (search_checks a.content a.pattern.now) (length a.pattern.now) m.search_fits-p.ensures m.in-Done.is).0
 
 pub returns-in_default-a : goal.returns-in_default-a
 unfolding count_service table_checks
 returns-in_default-a c =
-    passed (accepted c.before.before.before.before.before.before) (opening_refused _ {others = []} c.admit-a.ensures c.in_default-a.is (search_refuses c.admit-a.result c.with_tests-in_default-a.result c.with_tests-in_default-a.ensures) (λ d. refl))
+    passed (accepted (goal.at.returns-in_default-a c).After-admit-a) (opening_refused _ {others = []} c.admit-a.ensures c.in_default-a.is (search_refuses c.admit-a.result c.with_tests-in_default-a.result c.with_tests-in_default-a.ensures) (λ d. refl))
 
 -- and the table opened
 succeeded : (k : In-Done-a-2) → let a = k.args in
-    Succeeded sample_order a.table.now a.work.now k.admit-a.new.work k.a-1.given.0.0
-succeeded k = opening_done k.admit-a.ensures k.a-1.given.1
+    Succeeded sample_order a.table.now a.work.now k.admit-a.new.work k.in-Done-a.rules
+succeeded k = opening_done k.admit-a.ensures k.in-Done-a.is
 
 pub slice_bounds-count_loaded-end : goal.slice_bounds-count_loaded-end
-slice_bounds-count_loaded-end c = omega (arith, (succeeded c.before.before).loads.long)
+slice_bounds-count_loaded-end c = omega (arith, (succeeded (goal.at.slice_bounds-count_loaded-end c).In-Done-a-2).loads.long)
 
 pub count_loaded-n-requires : goal.count_loaded-n-requires
 count_loaded-n-requires c =
     let a = c.args in
-    let (some, short) = passed_search a.content a.pattern.now (accepted c.before.before.before.before.before.before.before) in
-    let (loaded, ordered, size) = opened_ready (succeeded c.before.before.before) in
+    let (some, short) = passed_search a.content a.pattern.now (accepted (goal.at.count_loaded-n-requires c).After-admit-a) in
+    let (loaded, ordered, size) = opened_ready (succeeded (goal.at.count_loaded-n-requires c).In-Done-a-2) in
     record { ready = loaded; ordered = ordered; size = size; filled = some; short = short }
 
 pub clear_front-requires : goal.clear_front-requires
-clear_front-requires c = omega (arith, (succeeded c.before.before.before.before.before.before.before).loads.long)
+clear_front-requires c = omega (arith, (succeeded (goal.at.clear_front-requires c).In-Done-a-2).loads.long)
 
-pub returns-in_default : goal.returns
+pub returns : goal.returns
 unfolding count_service outcome_of table_checks ready
-returns-in_default c =
+returns c =
     let a = c.args in
-    let x = succeeded c.before.before.before.before.before.before.before.before.before.before.before in
+    let x = succeeded (goal.at.returns c).In-Done-a-2 in
     let n = c.count_loaded-n.result in
     let found = c.count_loaded-n.ensures (ready x.loads) refl x.rules in
     let number = length (finds a.content a.pattern.now (text_of sample_order a.table.now)) in
-    passed (accepted c.before.before.before.before.before.before.before.before.before.before.before.before.before.before.before)
-    (opening_lent x {others = []} refl c.count_loaded-n.new.work c.count_loaded-n.auto.1.1.1.0 c.clear_front.ensures
+    passed (accepted (goal.at.returns c).After-admit-a)
+    (opening_lent x {others = []} refl c.count_loaded-n.new.work c.count_loaded-n.auto.work c.clear_front.ensures
     (served none
     (c.with_tests-2.ensures
     ∙ tests_done (Done n.occurrences) n.tests number (ap (λ (i : ℕ). done i 0) found.number)

@@ -19,8 +19,8 @@ deliver_cuts-requires c =
     let p = c.args.pattern.now in
     passed_pattern p (done_all (pattern_checks p) (length p) c.pattern_fits-p.ensures c.in-Done.is).0
 
-pub returns-in_default : goal.returns
+pub returns : goal.returns
 unfolding cuts_service
-returns-in_default c =
+returns c =
     let p = c.args.pattern.now in
     passed (done_all (pattern_checks p) (length p) c.pattern_fits-p.ensures c.in-Done.is).0 c.deliver_cuts.ensures

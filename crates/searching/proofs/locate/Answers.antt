@@ -14,16 +14,8 @@ use Rattle.lists.specs.Serving.{grouped, refused_front, passed}
 use Rattle.checks.proofs.Patterns.{search_keeps, passed_search}
 use Rattle.results.proofs.Answers.{search_refuses}
 use Rattle.opening.proofs.Services.{ready, opened_table, opening_refused, Succeeded, opening_done, opened_ready, opening_lent}
-use Rattle.searching.proofs.locate.Lts as lts
-use Rattle.searching.proofs.locate.Reads as reads
-use Rattle.searching.proofs.locate.Tie as tie
+use Rattle.searching.proofs.locate.Goals.{After-admit-a, In-Done-a-2}
 use Rattle.searching.proofs.locate.Goals as goal
-
-abbrev After-admit-a : Type 0
-After-admit-a = lts.After-admit tie.the-claims reads.Pre reads.Post
-
-abbrev In-Done-a-2 : Type 0
-In-Done-a-2 = lts.After-a tie.the-claims reads.Pre reads.Post
 
 pub returns-in_default : goal.returns-in_default
 unfolding locate_service
@@ -37,41 +29,41 @@ returns-in_default c =
 accepted : (m : After-admit-a) → let a = m.args in Passed (search_checks a.content a.pattern.now)
 accepted m =
     let a = m.args in
-    (done_all (search_checks a.content a.pattern.now) (length a.pattern.now) m.search_fits-p.ensures m.enum_told-1.given.1).0
+    (done_all (search_checks a.content a.pattern.now) (length a.pattern.now) m.search_fits-p.ensures m.in-Done.is).0
 
 pub returns-in_default-a : goal.returns-in_default-a
 unfolding locate_service
 returns-in_default-a c =
     let a = c.args in
     grouped (search_checks a.content a.pattern.now) _ _
-    (passed (accepted c.before.before.before.before.before.before) (opening_refused _ c.admit-a.ensures c.in_default-a.is (search_refuses c.admit-a.result c.with_tests-in_default-a.result c.with_tests-in_default-a.ensures) (λ d. refl)))
+    (passed (accepted (goal.at.returns-in_default-a c).After-admit-a) (opening_refused _ c.admit-a.ensures c.in_default-a.is (search_refuses c.admit-a.result c.with_tests-in_default-a.result c.with_tests-in_default-a.ensures) (λ d. refl)))
 
 -- and the table opened
 succeeded : (k : In-Done-a-2) → let a = k.args in
-    Succeeded sample_order a.table.now a.work.now k.admit-a.new.work k.a-1.given.0.0
-succeeded k = opening_done k.admit-a.ensures k.a-1.given.1
+    Succeeded sample_order a.table.now a.work.now k.admit-a.new.work k.in-Done-a.rules
+succeeded k = opening_done k.admit-a.ensures k.in-Done-a.is
 
 pub slice_bounds-locate_loaded-end : goal.slice_bounds-locate_loaded-end
-slice_bounds-locate_loaded-end c = omega (arith, (succeeded c.before.before).loads.long)
+slice_bounds-locate_loaded-end c = omega (arith, (succeeded (goal.at.slice_bounds-locate_loaded-end c).In-Done-a-2).loads.long)
 
 pub locate_loaded-b-requires : goal.locate_loaded-b-requires
 locate_loaded-b-requires c =
     let a = c.args in
-    let (some, short) = passed_search a.content a.pattern.now (accepted c.before.before.before.before.before.before.before.before) in
-    let (loaded, ordered, size) = opened_ready (succeeded c.before.before.before.before) in
+    let (some, short) = passed_search a.content a.pattern.now (accepted (goal.at.locate_loaded-b-requires c).After-admit-a) in
+    let (loaded, ordered, size) = opened_ready (succeeded (goal.at.locate_loaded-b-requires c).In-Done-a-2) in
     record { ready = loaded; ordered = ordered; size = size; filled = some; short = short }
 
 pub clear_front-requires : goal.clear_front-requires
-clear_front-requires c = omega (arith, (succeeded c.before.before.before.before.before.before.before.before.before.before).loads.long)
+clear_front-requires c = omega (arith, (succeeded (goal.at.clear_front-requires c).In-Done-a-2).loads.long)
 
-pub returns-in_default : goal.returns
+pub returns : goal.returns
 unfolding locate_service ready
-returns-in_default c =
+returns c =
     let a = c.args in
     let p = a.pattern.now in
-    let x = succeeded c.before.before.before.before.before.before.before.before.before.before.before.before.before in
+    let x = succeeded (goal.at.returns c).In-Done-a-2 in
     grouped (search_checks a.content p) _ _
-    (passed (accepted c.before.before.before.before.before.before.before.before.before.before.before.before.before.before.before.before.before)
-    (opening_lent x (refl, refl) c.locate_loaded-b.new.work c.locate_loaded-b.auto.1.1.1.0 c.clear_front.ensures
-    (subst (λ (t : List ℕ). Serves (writes [] (finds a.content p (text_of sample_order a.table.now)) (length (tests sample_order t (searched a.content p))) a.result.now) (Searches c.locate_loaded-b.result) (c.locate_loaded-b.new.res ∷ []))
+    (passed (accepted (goal.at.returns c).After-admit-a)
+    (opening_lent x (refl, refl) c.locate_loaded-b.new.work c.locate_loaded-b.auto.work c.clear_front.ensures
+    (subst (λ (t : List ℕ). Serves (writes [] (finds a.content p (text_of sample_order a.table.now)) (length (tests sample_order t (searched a.content p))) a.res.now) (Searches c.locate_loaded-b.result) (c.locate_loaded-b.new.res ∷ []))
     (opened_table x.loads) (c.locate_loaded-b.ensures (ready x.loads) refl x.rules))))

@@ -9,16 +9,8 @@ use Rattle.definitions.specs.declared.Order.{Order}
 use Rattle.definitions.specs.Words.{placed}
 use Rattle.definitions.specs.Table.{byte_of}
 use Rattle.spelling.proofs.Texts.{piece_count, rule_low, rule_inside, rule_piece}
-use Rattle.spelling.proofs.copy_rule.Lts as lts
-use Rattle.spelling.proofs.copy_rule.Reads as reads
-use Rattle.spelling.proofs.copy_rule.Tie as tie
+use Rattle.spelling.proofs.copy_rule.Goals.{After-wide-count, Start}
 use Rattle.spelling.proofs.copy_rule.Goals as goal
-
-abbrev Start : Type 0
-Start = lts.Start tie.the-claims reads.Pre reads.Post
-
-abbrev After-wide-count : Type 0
-After-wide-count = lts.After-wide2 tie.the-claims reads.Pre reads.Post
 
 low : (s : Start) → s.args.r < 2304
 low s = rule_low s.args.work.now s.requires.0 s.args.r s.requires.2.low
@@ -44,33 +36,33 @@ returns c h e m =
       number = piece_count piece;
       front =
           c.write_samples.ensures
-          ∙ ap (λ (o : Order). placed (map (byte_of o) ranks) a.result.now) (sym e)
-          ∙ ap (λ (l : List ℕ). placed l a.result.now) piece.same;
+          ∙ ap (λ (o : Order). placed (map (byte_of o) ranks) a.res.now) (sym e)
+          ∙ ap (λ (l : List ℕ). placed l a.res.now) piece.same;
     }
 
 pub overflow_add-r : goal.overflow_add-r
-overflow_add-r c = omega (arith, low c.before.before.before)
+overflow_add-r c = omega (arith, low (goal.at.overflow_add-r c).Start)
 
 pub offset_bounds-work-r : goal.offset_bounds-work-r
-offset_bounds-work-r c = omega (arith, low c.before.before.before)
+offset_bounds-work-r c = omega (arith, low (goal.at.offset_bounds-work-r c).Start)
 
 pub bounds-work-r : goal.bounds-work-r
-bounds-work-r c = omega (arith, low c.before.before.before.before, c.requires.0.loaded.kept.long)
+bounds-work-r c = omega (arith, low (goal.at.bounds-work-r c).Start, c.requires.0.loaded.kept.long)
 
 pub overflow_add-r-2 : goal.overflow_add-r-2
-overflow_add-r-2 c = omega (arith, low c.before.before.before.before.before)
+overflow_add-r-2 c = omega (arith, low (goal.at.overflow_add-r-2 c).Start)
 
 pub offset_bounds-work-r-2 : goal.offset_bounds-work-r-2
-offset_bounds-work-r-2 c = omega (arith, low c.before.before.before.before.before)
+offset_bounds-work-r-2 c = omega (arith, low (goal.at.offset_bounds-work-r-2 c).Start)
 
 pub bounds-work-r-2 : goal.bounds-work-r-2
-bounds-work-r-2 c = omega (arith, low c.before.before.before.before.before.before, c.requires.0.loaded.kept.long)
+bounds-work-r-2 c = omega (arith, low (goal.at.bounds-work-r-2 c).Start, c.requires.0.loaded.kept.long)
 
 pub overflow_add-end : goal.overflow_add-end
-overflow_add-end c = omega (arith, inside c.before)
+overflow_add-end c = omega (arith, inside (goal.at.overflow_add-end c).After-wide-count)
 
 pub offset_bounds-work-place : goal.offset_bounds-work-place
-offset_bounds-work-place c = omega (arith, inside c.before)
+offset_bounds-work-place c = omega (arith, inside (goal.at.offset_bounds-work-place c).After-wide-count)
 
 pub slice_bounds-write_samples-end : goal.slice_bounds-write_samples-end
-slice_bounds-write_samples-end c = omega (arith, inside c.before, c.requires.0.loaded.kept.long)
+slice_bounds-write_samples-end c = omega (arith, inside (goal.at.slice_bounds-write_samples-end c).After-wide-count, c.requires.0.loaded.kept.long)

@@ -6,13 +6,8 @@ use lib.ListN.{length, get_or}
 use borrow.Author.Rules.{rules}
 use Rattle.layout.specs.Layout.{LENGTHS}
 use Rattle.spelling.proofs.Texts.{loaded_length}
-use Rattle.spelling.proofs.text_length.Lts as lts
-use Rattle.spelling.proofs.text_length.Reads as reads
-use Rattle.spelling.proofs.text_length.Tie as tie
+use Rattle.spelling.proofs.text_length.Goals.{Start}
 use Rattle.spelling.proofs.text_length.Goals as goal
-
-abbrev Start : Type 0
-Start = lts.Start tie.the-claims reads.Pre reads.Post
 
 root : (s : Start) → (get_or s.args.work.now (LENGTHS + (s.args.rules - 1)) 0 ≡ suc (length s.requires.0.text)) × (0 < s.args.rules) × (s.args.rules ≤ 2304)
 root s = loaded_length s.args.work.now s.requires.0 s.args.rules s.requires.1
@@ -22,16 +17,16 @@ returns c h e =
     omega (arith, c.wide.ensures, (loaded_length c.args.work.now h c.args.rules e).0)
 
 pub overflow_sub-rules : goal.overflow_sub-rules
-overflow_sub-rules c = omega (arith, root c.before.before)
+overflow_sub-rules c = omega (arith, root (goal.at.overflow_sub-rules c).Start)
 
 pub overflow_add-rules : goal.overflow_add-rules
-overflow_add-rules c = omega (arith, root c.before.before)
+overflow_add-rules c = omega (arith, root (goal.at.overflow_add-rules c).Start)
 
 pub offset_bounds-work-rules : goal.offset_bounds-work-rules
-offset_bounds-work-rules c = omega (arith, root c.before.before)
+offset_bounds-work-rules c = omega (arith, root (goal.at.offset_bounds-work-rules c).Start)
 
 pub bounds-work-rules : goal.bounds-work-rules
-bounds-work-rules c = omega (arith, root c.before.before.before, c.requires.0.loaded.kept.long)
+bounds-work-rules c = omega (arith, root (goal.at.bounds-work-rules c).Start, c.requires.0.loaded.kept.long)
 
 pub overflow_sub-result : goal.overflow_sub-result
-overflow_sub-result c = omega (arith, c.wide.ensures, root c.before.before.before.before)
+overflow_sub-result c = omega (arith, c.wide.ensures, root (goal.at.overflow_sub-result c).Start)

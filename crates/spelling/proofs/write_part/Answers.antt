@@ -9,13 +9,8 @@ use Rattle.definitions.specs.declared.Order.{Order}
 use Rattle.definitions.specs.Words.{placed}
 use Rattle.definitions.specs.Table.{byte_of}
 use Rattle.spelling.proofs.Texts.{loaded_piece}
-use Rattle.spelling.proofs.write_part.Lts as lts
-use Rattle.spelling.proofs.write_part.Reads as reads
-use Rattle.spelling.proofs.write_part.Tie as tie
+use Rattle.spelling.proofs.write_part.Goals.{Start}
 use Rattle.spelling.proofs.write_part.Goals as goal
-
-abbrev Start : Type 0
-Start = lts.Start tie.the-claims reads.Pre reads.Post
 
 -- the part ends in the work slice
 inside : (s : Start) → 1 + s.args.start + s.args.count ≤ 2048
@@ -32,14 +27,14 @@ returns c h e fits =
     let piece = loaded_piece a.work.now h a.start a.count fits in
     let ranks = take (1 + a.start + a.count - (1 + a.start)) (drop (1 + a.start) a.work.now) in
     c.write_samples.ensures
-    ∙ ap (λ (o : Order). placed (map (byte_of o) ranks) a.result.now) (sym e)
-    ∙ ap (λ (l : List ℕ). placed l a.result.now) piece.same
+    ∙ ap (λ (o : Order). placed (map (byte_of o) ranks) a.res.now) (sym e)
+    ∙ ap (λ (l : List ℕ). placed l a.res.now) piece.same
 
 pub overflow_add-from : goal.overflow_add-from
-overflow_add-from c = omega (arith, inside c.before.before.before)
+overflow_add-from c = omega (arith, inside (goal.at.overflow_add-from c).Start)
 
 pub overflow_add-end : goal.overflow_add-end
-overflow_add-end c = omega (arith, inside c.before.before.before)
+overflow_add-end c = omega (arith, inside (goal.at.overflow_add-end c).Start)
 
 pub slice_bounds-write_samples-end : goal.slice_bounds-write_samples-end
-slice_bounds-write_samples-end c = omega (arith, inside c.before.before.before, c.requires.0.loaded.kept.long)
+slice_bounds-write_samples-end c = omega (arith, inside (goal.at.slice_bounds-write_samples-end c).Start, c.requires.0.loaded.kept.long)

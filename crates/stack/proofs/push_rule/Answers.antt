@@ -49,8 +49,8 @@ overflow_add-result-2 c =
     let d = a.c.depth in
     omega (arith, pushes_most a.work.now n d a.x a.y c.requires)
 
-pub returns-then-r-gt0 : goal.returns
-returns-then-r-gt0 c =
+pub returns : goal.returns
+returns c =
     let a = c.args in
     let n = a.c.rules in
     let d = a.c.depth in (

@@ -12,8 +12,8 @@ later x (suc i) h = let e : suc i - 1 ≡ i = omega arith in rw e refl
 pub returns-then-i-eq0 : goal.returns-then-i-eq0
 returns-then-i-eq0 c = let a = c.args in first a.text.now a.i c.if-i-eq0.true
 
-pub returns-then-i-eq0 : goal.returns
-returns-then-i-eq0 c = let a = c.args in later a.text.now a.i c.if-i-eq0.false
+pub returns : goal.returns
+returns c = let a = c.args in later a.text.now a.i c.if-i-eq0.false
 
 pub bounds-text-i : goal.bounds-text-i
 bounds-text-i c = omega (arith, c.requires)

@@ -7,13 +7,8 @@ use borrow.Author.Rules.{rules}
 use borrow.Author.Tests.{not-true, not-false}
 use Rattle.definitions.specs.Table.{rule_count}
 use Rattle.tables.proofs.Loading.{front_size, front_filled, unmarked, marked_sound, kept_loaded, refused, accepted}
-use Rattle.tables.proofs.keep.Lts as lts
-use Rattle.tables.proofs.keep.Reads as reads
-use Rattle.tables.proofs.keep.Tie as tie
+use Rattle.tables.proofs.keep.Goals.{Start}
 use Rattle.tables.proofs.keep.Goals as goal
-
-abbrev Start : Type 0
-Start = lts.Start tie.the-claims reads.Pre reads.Post
 
 pub is_marked-requires : goal.is_marked-requires
 is_marked-requires c =
@@ -23,28 +18,28 @@ is_marked-requires c =
 pub returns-then-not-is_marked : goal.returns-then-not-is_marked
 returns-then-not-is_marked c =
     let a = c.args in
-    λ k. refused k.order a.table.now a.work.now (unmarked k c.wide-n.result c.wide-n.ensures (c.is_marked.ensures.1 (not-true c.is_marked.result c.if-not-is_marked.true-raw)))
+    λ k. refused k.order a.table.now a.work.now (unmarked k c.wide-n.result c.wide-n.ensures (c.is_marked.ensures.1 (c.if-not-is_marked.true)))
 
-pub returns-then-not-is_marked : goal.returns
-returns-then-not-is_marked c =
+pub returns : goal.returns
+returns c =
     let a = c.args in
-    λ k. let sound = marked_sound k c.wide-n.result c.wide-n.ensures (front_filled k c.wide-n.result c.wide-n.ensures) (c.is_marked.ensures.0 (not-false c.is_marked.result c.if-not-is_marked.false-raw)) in
+    λ k. let sound = marked_sound k c.wide-n.result c.wide-n.ensures (front_filled k c.wide-n.result c.wide-n.ensures) (c.is_marked.ensures.0 (c.if-not-is_marked.false)) in
     accepted k.order a.table.now _ sound (kept_loaded k sound c.copy.new.to c.copy.ensures)
 
 index : (c : Start) → (rule_count c.args.table.now ≤ 2304) × (0 < rule_count c.args.table.now)
 index c = let (_, _, few, some) = front_size c.requires _ refl in (few, some)
 
 pub overflow_sub-rules : goal.overflow_sub-rules
-overflow_sub-rules c = omega (arith, index c.before.before.before)
+overflow_sub-rules c = omega (arith, index (goal.at.overflow_sub-rules c).Start)
 
 pub overflow_add-rules : goal.overflow_add-rules
-overflow_add-rules c = omega (arith, index c.before.before.before)
+overflow_add-rules c = omega (arith, index (goal.at.overflow_add-rules c).Start)
 
 pub offset_bounds-work-rules : goal.offset_bounds-work-rules
-offset_bounds-work-rules c = omega (arith, index c.before.before.before)
+offset_bounds-work-rules c = omega (arith, index (goal.at.offset_bounds-work-rules c).Start)
 
 pub bounds-work-rules : goal.bounds-work-rules
-bounds-work-rules c = omega (arith, index c.before.before.before.before, c.requires.filling.placed.sized.lent.long)
+bounds-work-rules c = omega (arith, index (goal.at.bounds-work-rules c).Start, c.requires.filling.placed.sized.lent.long)
 
 pub slice_bounds-copy-end : goal.slice_bounds-copy-end
 slice_bounds-copy-end c = omega (arith, c.requires.filling.placed.sized.lent.long)

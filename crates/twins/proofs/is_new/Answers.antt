@@ -33,8 +33,8 @@ find-requires c =
     let few = rules_few c.requires.0.lent in
     (c.args.r, c.requires.0.dict, omega (arith, c.requires.1, c.requires.0.lent.shaped.even), omega (arith, c.requires.1, c.requires.0.lent.long))
 
-pub returns-then-wide-r : goal.returns
-returns-then-wide-r c =
+pub returns : goal.returns
+returns c =
     let same = looked_up c.requires.0 c.requires.1 c.if-x-eq0.false c.find.result (c.find.ensures c.args.r c.requires.0.dict) in
     (λ e. same ∙ e, λ e. not_new c.requires.0 c.requires.1 (same ∙ e))
 

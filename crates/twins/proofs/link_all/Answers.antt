@@ -31,12 +31,12 @@ loop-r-preserved c =
     let low : c.loop-r.r < rule_count c.args.table.now = omega (arith, c.loop-r.invariant.1, c.loop-r-test.true) in (
       omega (arith, c.loop-r-test.true),
       c.loop-r.invariant.1,
-      c.link.auto.0 ∙ c.loop-r.invariant.2,
+      c.link.auto.work ∙ c.loop-r.invariant.2,
       linked_more c.loop-r.invariant.3 low (c.is_new.ensures.0 (not-false c.is_new.result c.if-not-is_new.false-raw)) c.link.new.work c.link.ensures,
     )
 
-pub returns-then-not-is_new : goal.returns
-returns-then-not-is_new c =
+pub returns : goal.returns
+returns c =
     let t = c.args.table.now in
     let z : c.loop-r.r ≡ rule_count t = omega (arith, c.loop-r.invariant.1, c.loop-r.invariant.0, c.loop-r-test.false) in
     (λ e. all_distinct (subst (λ (n : ℕ). Linked t n c.loop-r.work) z c.loop-r.invariant.3), λ e. contra refl e)
