@@ -1,6 +1,5 @@
 -- `main` hands over what it has read, and writes as much as `answer` says: it fits in the slice lent for it.
-use native.Mathlib.Omega.{arith}
-use borrow.Author.Rules.{rules}
+use Rattle.std.proofs.Common.{arith}
 use Rattle.lines.proofs.Deciding.{front_fits}
 use Rattle.standard_input.specs.Reading.{read_fits}
 use Rattle.census_report.proofs.main.Goals as goal
