@@ -1,7 +1,6 @@
 -- `sirbolta_locate` is `locate`, of what the form says.
 use mathlib.Core.Path.{subst}
 use mathlib.Core.List.{[], ◌∷◌}
-use borrow.Author.Rules.{rules}
 use Rattle.definitions.specs.declared.Content.{Content}
 use Rattle.definitions.specs.Services.{Serves, sample_order, locate_service}
 use Rattle.definitions.specs.Replies.{SearchReplies}
@@ -12,5 +11,5 @@ use Rattle.capi.proofs.sirbolta_locate.Goals as goal
 pub returns : goal.returns
 returns c =
     let a = c.args in
-    subst (λ (x : Content). Serves (locate_service sample_order a.table.now x a.pattern.now a.work.now a.result.now) (SearchReplies c.replied_search.result) (c.locate.new.work ∷ c.locate.new.res ∷ []))
+    subst (λ (x : Content). Serves (locate_service sample_order a.table.now x a.pattern.now a.work.now a.res.now) (SearchReplies c.replied_search.result) (c.locate.new.work ∷ c.locate.new.res ∷ []))
     c.content_of.ensures (said (search_replies _ _ c.replied_search.ensures) c.locate.ensures)
