@@ -13,4 +13,4 @@ wrapped x least r w a b c e =
 pub returns : goal.returns
 returns c =
     let a = c.args in
-    wrapped a.x a.least a.r c.wide.result (omega (arith, c.ranges)) (omega (arith, c.wide.ensures, c.wrapping_sub_u32.type_inv)) c.requires (omega (arith, c.wide.ensures, c.wrapping_sub_u32.ensures))
+    wrapped a.x a.least a.r c.wide.result (omega (arith, c.ranges)) (omega (arith, c.wide.ensures, c.wrapping_sub_u32.type_inv)) c.requires (omega (arith, c.wide.ensures, c.wrapping_sub_u32.ensures.value))

@@ -51,5 +51,5 @@ returns c =
     let room = (done_met (work_too_short n) n c.work_fits-w.ensures c.in-Done-w.is).0 in
     passed (more (text_too_long text) (done_met (text_too_long text) (length text) c.text_fits-t.ensures c.in-Done.is).0 (more (work_too_short n) room none))
     (worked a.work.now c.clear_front.new.work (refl, refl)
-    (work_cleared a.work.now c.build_in-a.new.work c.clear_front.new.work (ltb-false n WORK room) c.build_in-a.auto.1.1.0 c.clear_front.ensures)
+    (work_cleared a.work.now c.build_in-a.new.work c.clear_front.new.work (ltb-false n WORK room) c.build_in-a.auto.work c.clear_front.ensures)
     c.build_in-a.ensures)

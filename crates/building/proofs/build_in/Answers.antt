@@ -15,6 +15,6 @@ deliver_table-requires c =
 pub returns : goal.returns
 returns c =
     let a = c.args in
-    subst (λ (l : List ℕ). Serves (writes [] l 0 a.result.now) (Answers c.deliver_table.result) (c.deliver_table.new.res ∷ []))
+    subst (λ (l : List ℕ). Serves (writes [] l 0 a.res.now) (Answers c.deliver_table.result) (c.deliver_table.new.res ∷ []))
     (built_words sample_order a.text.now c.table-rules.new.work a.chair c.table-rules.result c.table-rules.ensures.0 c.table-rules.ensures.1 c.table-rules.ensures.2)
     c.deliver_table.ensures

@@ -52,7 +52,7 @@ short c =
 
 pub slice_bounds-deliver-end : goal.slice_bounds-deliver-end
 slice_bounds-deliver-end c =
-    omega (arith, short (goal.at.slice_bounds-deliver-end c).In-Done-b, c.read_samples-b.auto.1.1.0)
+    omega (arith, short (goal.at.slice_bounds-deliver-end c).In-Done-b, c.read_samples-b.auto.drive)
 
 pub deliver-requires : goal.deliver-requires
 deliver-requires c =

@@ -49,7 +49,7 @@ loop-sample-preserved c =
     let one : suc c.loop-sample.sample ≡ b = omega arith in (
       omega arith,
       (turned (goal.at.loop-sample-preserved c).After-amount_of-n).0 ∙ c.loop-sample.invariant.1,
-      c.place_sample.auto.1.1.1.0 ∙ c.loop-sample.invariant.2,
+      c.place_sample.auto.drive ∙ c.loop-sample.invariant.2,
       (number (goal.at.loop-sample-preserved c).After-amount_of-n).0,
       so_far_more text b c.loop-sample.drive c.place_sample.new.drive (turned (goal.at.loop-sample-preserved c).After-amount_of-n).2 (subst (λ (k : ℕ). SoFar text k c.loop-sample.drive) one c.loop-sample.invariant.4),
     )
@@ -58,10 +58,12 @@ pub returns : goal.returns
 returns c =
     let t = c.args.table.now in
     let text = text_of sample_order t in
-    let last : suc c.loop-sample.sample ≡ 256 = omega arith in (
+    let last : suc c.loop-sample.sample ≡ 256 = omega arith in
+    let (first, second, third) = (
       c.loop-sample.invariant.3 ∙ ap (number_below text) last ∙ number_all text (accepted sample_order t (length c.args.work.now) c.requires.passes).1,
       (c.loop-sample.invariant.1, subst (λ (k : ℕ). SoFar text k c.loop-sample.drive) last c.loop-sample.invariant.4),
-    )
+    ) in
+    record { result_value = first; work_unchanged = second; so_far = third }
 
 pub place_sample-requires : goal.place_sample-requires
 place_sample-requires c = c.loop-sample.invariant.2 ∙ c.requires.size

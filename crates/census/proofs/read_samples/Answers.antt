@@ -19,7 +19,7 @@ first : (c : In-Done)
     → let a = c.args in
     Begun sample_order a.table.now c.place_sample-a.new.work c.place_sample-a.new.drive × (c.in-Done.n ≡ number_below (text_of sample_order a.table.now) 1)
 first c =
-    begun sample_order c.args.table.now c.args.work.now c.place_sample-a.new.work c.args.drive.now c.place_sample-a.new.drive c.requires c.place_sample-a.auto.1.1.0 c.place_sample-a.auto.1.1.1.0 c.place_sample-a.ensures c.in-Done.is
+    begun sample_order c.args.table.now c.args.work.now c.place_sample-a.new.work c.args.drive.now c.place_sample-a.new.drive c.requires c.place_sample-a.auto.work c.place_sample-a.auto.drive c.place_sample-a.ensures c.in-Done.is
 
 pub place_others-m-requires : goal.place_others-m-requires
 place_others-m-requires c = (first (goal.at.place_others-m-requires c).In-Done).0
@@ -32,5 +32,5 @@ overflow_add-result c =
 pub returns : goal.returns
 returns c =
     let e = c.place_others-m.ensures in
-    all_read sample_order c.args.table.now c.args.work.now c.place_sample-a.new.work c.args.drive.now c.place_sample-a.new.drive c.requires c.place_sample-a.auto.1.1.0 c.place_sample-a.auto.1.1.1.0
+    all_read sample_order c.args.table.now c.args.work.now c.place_sample-a.new.work c.args.drive.now c.place_sample-a.new.drive c.requires c.place_sample-a.auto.work c.place_sample-a.auto.drive
     c.place_others-m.result c.place_sample-a.ensures c.in-Done.is e.0 e.1.0 e.1.1

@@ -15,7 +15,10 @@ use Rattle.census_output.proofs.answer_built.Goals as goal
 pub returns-in_default : goal.returns-in_default
 returns-in_default c =
     let e = census_refused c.args.input.now _ _ c.count_runs-a.new.runs c.count_runs-a.new.counts c.count_runs-a.result c.count_runs-a.ensures c.in_default.is in
-    (c.put_refusal.ensures.value ∙ ap length e, c.put_refusal.ensures.out_after ∙ ap (λ (x : List ℕ). placed x c.args.out.now) e)
+    record {
+      value = c.put_refusal.ensures.value ∙ ap length e;
+      out_after = c.put_refusal.ensures.out_after ∙ ap (λ (x : List ℕ). placed x c.args.out.now) e;
+    }
 
 -- what the census left, and is taken of it
 listed : (w : After-window-q) → Listed w.args.input.now w.count_runs-a.new.runs w.count_runs-a.new.counts w.window-q.result w.in-Done.n
@@ -39,4 +42,7 @@ put_report-requires c =
 pub returns : goal.returns
 returns c =
     let e = (listed (goal.at.returns c).After-window-q).output in
-    (c.put_report.ensures.value ∙ ap length e, c.put_report.ensures.out_after ∙ ap (λ (x : List ℕ). placed x c.args.out.now) e)
+    record {
+      value = c.put_report.ensures.value ∙ ap length e;
+      out_after = c.put_report.ensures.out_after ∙ ap (λ (x : List ℕ). placed x c.args.out.now) e;
+    }

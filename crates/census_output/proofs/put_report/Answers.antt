@@ -16,13 +16,13 @@ room p =
     omega (arith, p.put_tallies-n.ensures.value, tallies_most p.args.q p.args.runs.now p.args.counts.now p.requires.0 bytes, p.requires.1)
 
 pub slice_bounds-put_decimal_line-count : goal.slice_bounds-put_decimal_line-count
-slice_bounds-put_decimal_line-count c = omega (arith, room (goal.at.slice_bounds-put_decimal_line-count c).After-put_tallies-n, c.put_tallies-n.auto.1.1.1.0)
+slice_bounds-put_decimal_line-count c = omega (arith, room (goal.at.slice_bounds-put_decimal_line-count c).After-put_tallies-n, c.put_tallies-n.auto.out)
 
 pub slice_bounds-put_decimal_line-start : goal.slice_bounds-put_decimal_line-start
-slice_bounds-put_decimal_line-start c = omega (arith, room (goal.at.slice_bounds-put_decimal_line-start c).After-put_tallies-n, c.put_tallies-n.auto.1.1.1.0)
+slice_bounds-put_decimal_line-start c = omega (arith, room (goal.at.slice_bounds-put_decimal_line-start c).After-put_tallies-n, c.put_tallies-n.auto.out)
 
 pub put_decimal_line-m-requires : goal.put_decimal_line-m-requires
-put_decimal_line-m-requires c = simp (length-take, length-drop) (omega (arith, room (goal.at.put_decimal_line-m-requires c).After-put_tallies-n, c.put_tallies-n.auto.1.1.1.0))
+put_decimal_line-m-requires c = simp (length-take, length-drop) (omega (arith, room (goal.at.put_decimal_line-m-requires c).After-put_tallies-n, c.put_tallies-n.auto.out))
 
 pub overflow_add-result : goal.overflow_add-result
 overflow_add-result c =
@@ -31,7 +31,8 @@ overflow_add-result c =
 pub returns : goal.returns
 returns c =
     let a = c.args in
-    report_stored a.q a.runs.now a.counts.now a.out.now c.put_tallies-n.new.out c.put_decimal_line-m.new.out c.put_tallies-n.result c.put_decimal_line-m.result c.sum.result (room (goal.at.returns c).After-put_tallies-n) c.sum.ensures c.put_tallies-n.ensures.value c.put_tallies-n.ensures.out_after c.put_decimal_line-m.ensures.value c.put_decimal_line-m.ensures.out_after
+    let (first, second) = report_stored a.q a.runs.now a.counts.now a.out.now c.put_tallies-n.new.out c.put_decimal_line-m.new.out c.put_tallies-n.result c.put_decimal_line-m.result c.sum.result (room (goal.at.returns c).After-put_tallies-n) c.sum.ensures c.put_tallies-n.ensures.value c.put_tallies-n.ensures.out_after c.put_decimal_line-m.ensures.value c.put_decimal_line-m.ensures.out_after in
+    record { value = first; out_after = second }
 
 pub sum-requires : goal.sum-requires
 sum-requires c = c.requires.0.few

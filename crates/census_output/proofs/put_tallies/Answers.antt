@@ -81,7 +81,8 @@ pub returns : goal.returns
 unfolding tallies
 returns c =
     let a = c.args in
-    turns_all (tally a.q a.runs.now a.counts.now) c.loop-i.i (length a.counts.now) (omega arith) refl c.loop-i.invariant.2
+    let (first, second) = turns_all (tally a.q a.runs.now a.counts.now) c.loop-i.i (length a.counts.now) (omega arith) refl c.loop-i.invariant.2 in
+    record { value = first; out_after = second }
 
 pub shape_of-out : goal.shape_of-out
 shape_of-out c = c.loop-i.invariant.1

@@ -17,13 +17,13 @@ module _ (b : tie.After-put-spaced) where
   room = omega (arith, small, b.put-spaced.ensures.0, b.before.before.before.before.pre)
 
 pub slice_bounds-put_decimal_line-count : goal.slice_bounds-put_decimal_line-count
-slice_bounds-put_decimal_line-count c = omega (arith, room b, c.put_spaced-n.auto.1.0)
+slice_bounds-put_decimal_line-count c = omega (arith, room b, c.put_spaced-n.auto.out)
 
 pub slice_bounds-put_decimal_line-start : goal.slice_bounds-put_decimal_line-start
-slice_bounds-put_decimal_line-start c = omega (arith, room b, c.put_spaced-n.auto.1.0)
+slice_bounds-put_decimal_line-start c = omega (arith, room b, c.put_spaced-n.auto.out)
 
 pub put_decimal_line-m-requires : goal.put_decimal_line-m-requires
-put_decimal_line-m-requires c = simp (length-take, length-drop) (omega (arith, room b, c.put_spaced-n.auto.1.0))
+put_decimal_line-m-requires c = simp (length-take, length-drop) (omega (arith, room b, c.put_spaced-n.auto.out))
 
 pub overflow_add-result : goal.overflow_add-result
 overflow_add-result c =
@@ -31,4 +31,5 @@ overflow_add-result c =
 
 pub returns : goal.returns
 returns c =
-    named_stored (spaced c.args.run.now) c.args.count c.args.out.now c.put_spaced-n.result c.put_decimal_line-m.result c.put_spaced-n.new.out c.put_decimal_line-m.new.out (omega (arith, small b, c.requires)) c.put_spaced-n.ensures.value c.put_spaced-n.ensures.out_after c.put_decimal_line-m.ensures.value c.put_decimal_line-m.ensures.out_after
+    let (first, second) = named_stored (spaced c.args.run.now) c.args.count c.args.out.now c.put_spaced-n.result c.put_decimal_line-m.result c.put_spaced-n.new.out c.put_decimal_line-m.new.out (omega (arith, small b, c.requires)) c.put_spaced-n.ensures.value c.put_spaced-n.ensures.out_after c.put_decimal_line-m.ensures.value c.put_decimal_line-m.ensures.out_after in
+    record { value = first; out_after = second }

@@ -1,22 +1,21 @@
 -- `smaller` compares short strings symbol by symbol; of long ones it passes blocks that are alike, and compares what is left.
 use mathlib.Core.Path.{◌≡◌, sym, ◌∙◌}
-use mathlib.Core.Logic.{⊎_elim}
 use Prim.Native.Nat.{min}
 use native.Mathlib.Omega.{arith}
 use lib.ListN.{length}
 use borrow.Author.Rules.{rules}
-use Rattle.compare.proofs.smaller.Goals.{Else-short-lt16}
+use Rattle.compare.proofs.smaller.Goals.{Else-short-lt16, then-m-n, else-m-n}
 use Rattle.compare.proofs.smaller.Goals as goal
 
 pub smaller_from-requires : goal.smaller_from-requires
 smaller_from-requires c =
     let a = c.args in
-    let m : c.if-m-n.short ≡ min (length a.x.now) (length a.y.now) = ⊎_elim (λ w. omega arith) (λ w. omega arith) c.if-m-n.branch in
+    let m : c.if-m-n.short ≡ min (length a.x.now) (length a.y.now) = elim c.if-m-n.branch [ then-m-n w ↦ omega arith | else-m-n w ↦ omega arith ] in
     (omega arith, m)
 
 -- the length of the shorter
 shorter : (c : Else-short-lt16) → let a = c.args in c.if-m-n.short ≡ min (length a.x.now) (length a.y.now)
-shorter c = ⊎_elim (λ w. omega arith) (λ w. omega arith) c.if-m-n.branch
+shorter c = elim c.if-m-n.branch [ then-m-n w ↦ omega arith | else-m-n w ↦ omega arith ]
 
 pub alike-i-requires : goal.alike-i-requires
 alike-i-requires c = let m = shorter (goal.at.alike-i-requires c).Else-short-lt16 in (omega arith, omega arith)

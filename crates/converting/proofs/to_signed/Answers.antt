@@ -11,7 +11,7 @@ use Rattle.converting.proofs.to_signed.Goals as goal
 pub returns-in_default : goal.returns-in_default
 unfolding convert_order_service
 returns-in_default c =
-    opening_refused _ c.admit-a.ensures c.in_default.is (answer_refuses c.admit-a.result) (λ d. refl)
+    opening_refused _ c.admit-a.ensures c.in_default.is (answer_refuses c.admit-a.res) (λ d. refl)
 
 -- the table is opened
 succeeded : (k : In-Done) → let a = k.args in
@@ -31,4 +31,4 @@ pub returns : goal.returns
 unfolding convert_order_service ready
 returns c =
     let x = succeeded (goal.at.returns c).In-Done in
-    opening_lent x (refl, refl) c.reorder_loaded-b.new.work c.reorder_loaded-b.auto.1.1.0 c.clear_front.ensures (c.reorder_loaded-b.ensures (ready x.loads) refl x.rules)
+    opening_lent x (refl, refl) c.reorder_loaded-b.new.work c.reorder_loaded-b.auto.work c.clear_front.ensures (c.reorder_loaded-b.ensures (ready x.loads) refl x.rules)

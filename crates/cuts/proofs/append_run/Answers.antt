@@ -37,7 +37,7 @@ append-requires c =
       omega (
         arith,
         c.requires.0,
-        c.put.auto.0,
+        c.put.auto.s,
         ap length (run_cuts_ended r.start r.back r.end r.next a.m c.if-run-m.false c.is_last_listed.result c.is_last_listed.ensures),
       ),
       c.requires.2,

@@ -49,7 +49,7 @@ loop-start-preserved c =
     let (e, t) = c.scan-run.ensures in
     let (x, y, z) = run_written a.order a.pattern.now c.loop-start.start run.start run.back run.end run.next e c.loop-start.invariant.2 t
     c.loop-start.n c.append_run-n.result a.cuts.now c.loop-start.cuts c.append_run-n.new.cuts c.requires.0 c.loop-start.invariant.3 c.loop-start.invariant.4 c.append_run-n.ensures in
-    (refl, c.append_run-n.auto.0 ∙ c.loop-start.invariant.1, x, y, z)
+    (refl, c.append_run-n.auto.cuts ∙ c.loop-start.invariant.1, x, y, z)
 
 pub returns : goal.returns
 returns c =

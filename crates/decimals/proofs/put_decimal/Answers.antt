@@ -10,7 +10,7 @@ put_digits-requires c =
 
 pub bounds-out-n : goal.bounds-out-n
 bounds-out-n c =
-    omega (arith, c.digit_count-n.ensures, decimal_length c.args.number, c.put_digits.auto.1.1.0)
+    omega (arith, c.digit_count-n.ensures, decimal_length c.args.number, c.put_digits.auto.out)
 
 pub overflow_add-result : goal.overflow_add-result
 overflow_add-result c =
@@ -18,4 +18,5 @@ overflow_add-result c =
 
 pub returns : goal.returns
 returns c =
-    decimal_stored c.args.number c.args.behind c.digit_count-n.result c.args.out.now c.put_digits.new.out c.requires c.digit_count-n.ensures c.put_digits.ensures
+    let (first, second) = decimal_stored c.args.number c.args.behind c.digit_count-n.result c.args.out.now c.put_digits.new.out c.requires c.digit_count-n.ensures c.put_digits.ensures in
+    record { value = first; out_after = second }

@@ -11,4 +11,6 @@ put_decimal-requires c =
 
 pub returns : goal.returns
 unfolding line
-returns c = c.put_decimal.ensures
+returns c =
+    let (first, second) = c.put_decimal.ensures in
+    record { value = first; out_after = second }

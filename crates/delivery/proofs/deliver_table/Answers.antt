@@ -12,5 +12,5 @@ use Rattle.delivery.proofs.deliver_table.Goals as goal
 pub returns : goal.returns
 returns c =
     let a = c.args in
-    subst (λ (l : List ℕ). Serves (writes [] l 0 a.result.now) (Answers c.deliver.result) (c.deliver.new.res ∷ []))
+    subst (λ (l : List ℕ). Serves (writes [] l 0 a.res.now) (Answers c.deliver.result) (c.deliver.new.res ∷ []))
     (part_taken TABLE (TABLE + 2 * a.rules - TABLE) (2 * a.rules) a.work.now (omega arith)) c.deliver.ensures

@@ -36,7 +36,10 @@ pub returns-in_default : goal.returns-in_default
 returns-in_default c =
     let a = c.args in
     let e = refused a.drive.now c.drive_fits-a.ensures c.in_default.is in
-    (c.put_refusal.ensures.value ∙ ap length e, c.put_refusal.ensures.out_after ∙ ap (λ (l : List ℕ). placed l a.out.now) e)
+    record {
+      value = c.put_refusal.ensures.value ∙ ap length e;
+      out_after = c.put_refusal.ensures.out_after ∙ ap (λ (l : List ℕ). placed l a.out.now) e;
+    }
 
 pub put_headings-requires : goal.put_headings-requires
 put_headings-requires c =
@@ -46,4 +49,7 @@ pub returns : goal.returns
 returns c =
     let a = c.args in
     let e = named a.drive.now c.drive_fits-a.ensures c.in-Done.is in
-    (c.put_headings.ensures.value ∙ ap length e, c.put_headings.ensures.out_after ∙ ap (λ (l : List ℕ). placed l a.out.now) e)
+    record {
+      value = c.put_headings.ensures.value ∙ ap length e;
+      out_after = c.put_headings.ensures.out_after ∙ ap (λ (l : List ℕ). placed l a.out.now) e;
+    }

@@ -30,4 +30,7 @@ pub returns : goal.returns
 returns c =
     let h = c.args.heading in
     let e = ap line (written c.name_of-name.result.bytes c.name_of-name.result.len h c.name_of-name.ensures.0) in
-    (c.put_line.ensures.value ∙ ap length e, c.put_line.ensures.out_after ∙ ap (λ (l : List ℕ). placed l c.args.out.now) e)
+    record {
+      value = c.put_line.ensures.value ∙ ap length e;
+      out_after = c.put_line.ensures.out_after ∙ ap (λ (l : List ℕ). placed l c.args.out.now) e;
+    }

@@ -44,7 +44,8 @@ loop-i-preserved c =
 pub returns : goal.returns
 returns c =
     let headings = c.args.headings.now in
-    turns_all (line_at heading_name headings) c.loop-i.i (length headings) (omega arith) (lines_turns heading_name headings) c.loop-i.invariant.2
+    let (first, second) = turns_all (line_at heading_name headings) c.loop-i.i (length headings) (omega arith) (lines_turns heading_name headings) c.loop-i.invariant.2 in
+    record { value = first; out_after = second }
 
 pub shape_of-out : goal.shape_of-out
 shape_of-out c = c.loop-i.invariant.1

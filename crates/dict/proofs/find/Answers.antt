@@ -1,7 +1,6 @@
 -- `find` walks the bucket of the two words from its newest rule down. The invariant is the walk's (Walk.antt), whatever number of rules the links are those of.
 use mathlib.Core.Path.{◌≡◌, ◌∙◌, ap}
 use mathlib.Core.Bool.{false}
-use mathlib.Core.Logic.{⊎_elim}
 use lib.ListN.{length, get_or}
 use Prim.Native.Nat.{ℕ, ◌+◌, ◌-◌, ◌*◌, ◌≤◌}
 use native.Mathlib.Omega.{arith}
@@ -9,6 +8,7 @@ use Rattle.lists.specs.Newest.{has_words}
 use Rattle.dict.specs.Dictionary.{Dict}
 use Rattle.dict.specs.Links.{bucket_small}
 use Rattle.dict.proofs.Walk.{Walk, walk_start, walk_next, walk_found, walk_ended, rule_here, first_differs, second_differs}
+use Rattle.dict.proofs.find.Goals.{After-wide-r-in-loop-r, then-rules-k+else-rules-k-2, else-rules-k}
 use Rattle.dict.proofs.find.Goals as goal
 
 pub offset_bounds-links-bucket : goal.offset_bounds-links-bucket
@@ -33,24 +33,29 @@ returns-then-rules-k-2 c n d =
     walk_found a.rules.now n a.x a.y c.loop-r.r (c.loop-r.invariant.2 n d) (omega arith)
     (rule_here a.rules.now a.x a.y c.loop-r.r (omega arith) c.if-rules-k.true c.if-rules-k-2.true)
 
+-- the rule that the walk passes has other words
+passed : (c : After-wide-r-in-loop-r) → let a = c.args in has_words a.rules.now a.x a.y (c.loop-r.r - 1) ≡ false
+passed c =
+    let a = c.args in
+    elim c.if-rules-k.branch [
+      | then-rules-k+else-rules-k-2 w ↦ second_differs a.rules.now a.x a.y c.loop-r.r (omega arith) w.if-rules-k-2.false
+      | else-rules-k w ↦ first_differs a.rules.now a.x a.y c.loop-r.r (omega arith) w.if-rules-k.false
+    ]
+
 pub loop-r-smaller : goal.loop-r-smaller
 loop-r-smaller c =
     let a = c.args in
-    let other : has_words a.rules.now a.x a.y (c.loop-r.r - 1) ≡ false = ⊎_elim
-    (λ w. second_differs a.rules.now a.x a.y c.loop-r.r (omega arith) w.2.left)
-    (λ w. first_differs a.rules.now a.x a.y c.loop-r.r (omega arith) w.left) c.if-rules-k.branch in
-    (walk_next a.rules.now a.links.now c.requires.0 a.x a.y c.loop-r.r c.wide-r-in-loop-r.result c.requires.1 (c.loop-r.invariant.2 c.requires.0 c.requires.1) (omega arith) other c.wide-r-in-loop-r.ensures).1
+    (walk_next a.rules.now a.links.now c.requires.0 a.x a.y c.loop-r.r c.wide-r-in-loop-r.result c.requires.1 (c.loop-r.invariant.2 c.requires.0 c.requires.1) (omega arith)
+    (passed (goal.at.loop-r-smaller c).After-wide-r-in-loop-r) c.wide-r-in-loop-r.ensures).1
 
 pub loop-r-preserved : goal.loop-r-preserved
 loop-r-preserved c =
     let a = c.args in
-    let other : has_words a.rules.now a.x a.y (c.loop-r.r - 1) ≡ false = ⊎_elim
-    (λ w. second_differs a.rules.now a.x a.y c.loop-r.r (omega arith) w.2.left)
-    (λ w. first_differs a.rules.now a.x a.y c.loop-r.r (omega arith) w.left) c.if-rules-k.branch in
     let less = loop-r-smaller c in (
       omega arith,
       omega arith,
-      λ n d. (walk_next a.rules.now a.links.now n a.x a.y c.loop-r.r c.wide-r-in-loop-r.result d (c.loop-r.invariant.2 n d) (omega arith) other c.wide-r-in-loop-r.ensures).0,
+      λ n d. (walk_next a.rules.now a.links.now n a.x a.y c.loop-r.r c.wide-r-in-loop-r.result d (c.loop-r.invariant.2 n d) (omega arith)
+          (passed (goal.at.loop-r-preserved c).After-wide-r-in-loop-r) c.wide-r-in-loop-r.ensures).0,
     )
 
 pub returns : goal.returns

@@ -17,7 +17,7 @@ merge-j-requires c =
     let a = c.args in
     let (e, z) = opened a.work.now a.n a.i (omega arith) (omega arith) (omega arith) c.requires.3 in (
       omega arith,
-      omega (arith, c.put.auto.0),
+      omega (arith, c.put.auto.s),
       omega arith,
       subst (λ (l : List ℕ). Ended (part 0 a.n l) (suc a.i) l) (sym c.put.ensures) e,
       subst (λ (l : List ℕ). get_or l (CLOSINGS + a.i) 0 ≡ 0) (sym c.put.ensures) z,
@@ -31,6 +31,6 @@ returns c =
     = ap (part 0 a.n) c.put.ensures ∙ text_kept a.work.now a.n a.i 0 (omega arith) in
     subst (λ (l : List ℕ). Ended (part 0 a.n a.work.now) a.i l) (sym c.put-2.ensures)
     (finished (part 0 a.n a.work.now) c.merge-j.new.work a.i c.merge-j.result (omega arith)
-    (omega (arith, c.put.auto.0, c.merge-j.auto.0)) (omega arith)
+    (omega (arith, c.put.auto.s, c.merge-j.auto.work)) (omega arith)
     (subst (λ (s : List ℕ). c.merge-j.result ≡ a.i + longest (drop a.i s)) text c.merge-j.ensures.0)
     (subst (λ (s : List ℕ). Merged s a.i c.merge-j.new.work) text c.merge-j.ensures.2))

@@ -23,7 +23,7 @@ pub loop-i-preserved : goal.loop-i-preserved
 loop-i-preserved c =
     let a = c.args in (
       omega arith,
-      c.end_at.auto.0 ∙ c.loop-i.invariant.1,
+      c.end_at.auto.work ∙ c.loop-i.invariant.1,
       subst (λ (s : List ℕ). Ended s (c.loop-i.i - 1) c.end_at.new.work) (text_same a.work.now c.loop-i.work a.n c.loop-i.i (omega arith) c.loop-i.invariant.2) c.end_at.ensures,
     )
 

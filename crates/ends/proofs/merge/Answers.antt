@@ -79,7 +79,7 @@ loop-j-preserved c =
     let a = c.args in
     let u = turn a.work.now c.loop-j.work a.n a.i c.loop-j.j c.wide-k.result (omega arith) (omega arith) c.loop-j.invariant.0 c.loop-j.invariant.1 (omega arith) c.wide-k.ensures in
     let (t, m) = u.joined (sym c.before-in-loop-j.ensures ∙ not-false c.before-in-loop-j.result c.if-not-before.false-raw) in (
-      c.bump.auto.0 ∙ c.loop-j.invariant.0,
+      c.bump.auto.work ∙ c.loop-j.invariant.0,
       (t, subst (λ (l : List ℕ). Merging (part 0 a.n a.work.now) a.i (c.loop-j.j + c.wide-k.result) t l) (sym c.bump.ensures) m),
     )
 

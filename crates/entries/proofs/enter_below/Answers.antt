@@ -20,7 +20,7 @@ enter_halves-requires c =
     (subst (λ (n : ℕ). Entered c.args.table.now n c.loop-r.work) one c.loop-r.invariant.2, omega (arith, c.loop-r.invariant.0))
 
 pub shape_of-work-then-not-enter_halves : goal.shape_of-work-then-not-enter_halves
-shape_of-work-then-not-enter_halves c = c.enter_halves.auto.1.0 ∙ c.loop-r.invariant.1
+shape_of-work-then-not-enter_halves c = c.enter_halves.auto.work ∙ c.loop-r.invariant.1
 
 pub returns-then-not-enter_halves : goal.returns-then-not-enter_halves
 returns-then-not-enter_halves c =
@@ -28,7 +28,7 @@ returns-then-not-enter_halves c =
 
 pub loop-r-preserved : goal.loop-r-preserved
 loop-r-preserved c =
-    (omega (arith, c.loop-r.invariant.0), c.enter_halves.auto.1.0 ∙ c.loop-r.invariant.1, c.enter_halves.ensures.0 (not-false c.enter_halves.result c.if-not-enter_halves.false-raw))
+    (omega (arith, c.loop-r.invariant.0), c.enter_halves.auto.work ∙ c.loop-r.invariant.1, c.enter_halves.ensures.0 (not-false c.enter_halves.result c.if-not-enter_halves.false-raw))
 
 pub returns : goal.returns
 returns c =

@@ -56,7 +56,7 @@ met c =
 pub enter-requires : goal.enter-requires
 enter-requires c =
     let low = after_room c.requires.0 c.requires.1 c.in-Pair.left c.in-Pair.right (is_pair_lem (goal.at.enter-requires c).In-Pair) in
-    (omega (arith, room (goal.at.enter-requires c).In-Pair), omega (arith, room (goal.at.enter-requires c).In-Pair, (met (goal.at.enter-requires c).After-enter-d).0, low.0), omega (arith, c.enter-d.auto.0, c.requires.0.sized.lent.long))
+    (omega (arith, room (goal.at.enter-requires c).In-Pair), omega (arith, room (goal.at.enter-requires c).In-Pair, (met (goal.at.enter-requires c).After-enter-d).0, low.0), omega (arith, c.enter-d.auto.work, c.requires.0.sized.lent.long))
 
 pub returns-in-Pair : goal.returns-in-Pair
 returns-in-Pair c =

@@ -35,11 +35,11 @@ gone_on c =
 pub loop-p-preserved : goal.loop-p-preserved
 loop-p-preserved c =
     let (next, nearer, room) = gone_on (goal.at.loop-p-preserved c).In-Next in
-    (c.expand_rule-t.auto.1.1.0 ∙ c.loop-p.invariant.0, room, next)
+    (c.expand_rule-t.auto.work ∙ c.loop-p.invariant.0, room, next)
 
 pub shape_of-work-in-Whole : goal.shape_of-work-in-Whole
 shape_of-work-in-Whole c =
-    c.expand_rule-t.auto.1.1.0 ∙ c.loop-p.invariant.0
+    c.expand_rule-t.auto.work ∙ c.loop-p.invariant.0
 
 pub returns-in-Whole : goal.returns-in-Whole
 returns-in-Whole c =

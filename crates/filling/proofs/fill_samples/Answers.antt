@@ -20,7 +20,7 @@ fill_rule-requires c =
     (c.loop-r.invariant.4, low, c.requires.1.samples c.loop-r.r c.loop-r.invariant.0 low)
 
 pub shape_of-work-then-not-fill_rule : goal.shape_of-work-then-not-fill_rule
-shape_of-work-then-not-fill_rule c = c.fill_rule.auto.1.1.0 ∙ c.loop-r.invariant.3
+shape_of-work-then-not-fill_rule c = c.fill_rule.auto.work ∙ c.loop-r.invariant.3
 
 pub returns-then-not-fill_rule : goal.returns-then-not-fill_rule
 returns-then-not-fill_rule c =
@@ -31,7 +31,7 @@ loop-r-preserved c = (
   omega arith,
   omega (arith, c.loop-r-test.true),
   c.loop-r.invariant.2,
-  c.fill_rule.auto.1.1.0 ∙ c.loop-r.invariant.3,
+  c.fill_rule.auto.work ∙ c.loop-r.invariant.3,
   c.fill_rule.ensures.0 (not-false c.fill_rule.result c.if-not-fill_rule.false-raw),
 )
 

@@ -8,7 +8,7 @@ use Rattle.finding.proofs.deliver_found.Goals as goal
 pub returns-in_default : goal.returns-in_default
 returns-in_default c h e q =
     let a = c.args in
-    list_refused (occurrences h.pattern (drop a.from h.text)) a.result.now a.n q c.result_fits-fits.result c.result_fits-fits.ensures c.in_default.is
+    list_refused (occurrences h.pattern (drop a.from h.text)) a.res.now a.n q c.result_fits-fits.result c.result_fits-fits.ensures c.in_default.is
 
 pub list-requires : goal.list-requires
 list-requires c =
@@ -17,11 +17,11 @@ list-requires c =
       h,
       c.requires.1,
       c.requires.2,
-      list_fits (occurrences h.pattern (drop a.from h.text)) a.result.now a.n c.requires.3 c.result_fits-fits.result c.result_fits-fits.ensures c.in-Done.is,
+      list_fits (occurrences h.pattern (drop a.from h.text)) a.res.now a.n c.requires.3 c.result_fits-fits.result c.result_fits-fits.ensures c.in-Done.is,
     )
 
 pub returns : goal.returns
 returns c h e q =
     let a = c.args in
-    list_written (occurrences h.pattern (drop a.from h.text)) a.result.now a.n q c.result_fits-fits.result c.result_fits-fits.ensures c.list.new.res
+    list_written (occurrences h.pattern (drop a.from h.text)) a.res.now a.n q c.result_fits-fits.result c.result_fits-fits.ensures c.list.new.res
     c.in-Done.is (c.list.ensures h e).1

@@ -31,11 +31,11 @@ returns c h e size =
     let a = c.args in
     let p = a.pattern.now in
     let found = c.count_loaded-n.ensures h e size in
-    let r = c.deliver_found-a.result in
+    let r = c.deliver_found-a.res in
     let n = length (finds a.content p h.text) in
     let same = finds_from a.content p h e c.requires.filled c.start_of.ensures in
     restated (λ i j y. c.with_tests.ensures ∙ tests_refused r c.count_loaded-n.result.tests i j y)
     (λ y. c.with_tests.ensures ∙ tests_done r c.count_loaded-n.result.tests n y ∙ ap (λ (m : ℕ). search_of (done n m)) found.made)
-    (subst (λ (l : List ℕ). Serves (writes [] l 0 a.result.now) (Answers r) (c.deliver_found-a.new.res ∷ [])) (sym same)
+    (subst (λ (l : List ℕ). Serves (writes [] l 0 a.res.now) (Answers r) (c.deliver_found-a.new.res ∷ [])) (sym same)
     (c.deliver_found-a.ensures (all_found sample_order (searched a.content p) h.text c.count_loaded-n.new.work h.chair found.all)
     (in_order sample_order a.work.now h a.rules e size) (found.number ∙ ap length same)))

@@ -14,16 +14,16 @@ use Rattle.grammar.proofs.build_table.Goals as goal
 pub rules-r-requires : goal.rules-r-requires
 rules-r-requires c =
     let a = c.args in
-    ended_numbers sample_order a.n a.chair a.work.now c.ends.new.work c.requires c.ends.ensures c.ends.auto.0
+    ended_numbers sample_order a.n a.chair a.work.now c.ends.new.work c.requires c.ends.ensures c.ends.auto.work
 
 pub returns : goal.returns
 returns c =
     let a = c.args in
     λ m.
-    let same = ended_numbered sample_order a.n a.chair a.work.now c.ends.new.work m c.ends.ensures c.ends.auto.0 in
+    let same = ended_numbered sample_order a.n a.chair a.work.now c.ends.new.work m c.ends.ensures c.ends.auto.work in
     let (k, n, b) = c.rules-r.ensures in (
       subst (λ (l : List ℕ). Built sample_order m.text a.chair l) (sym c.put.ensures)
-          (tabled sample_order a.n a.chair a.work.now c.ends.new.work m c.ends.ensures c.ends.auto.0 c.rules-r.new.work
+          (tabled sample_order a.n a.chair a.work.now c.ends.new.work m c.ends.ensures c.ends.auto.work c.rules-r.new.work
           (subst (λ (K : List Rule). Rules sample_order K c.rules-r.new.work) same k) b),
-      n ∙ ap length same ∙ rules_size sample_order a.n a.chair a.work.now c.ends.new.work m c.ends.ensures c.ends.auto.0,
+      n ∙ ap length same ∙ rules_size sample_order a.n a.chair a.work.now c.ends.new.work m c.ends.ensures c.ends.auto.work,
     )

@@ -34,7 +34,7 @@ loop-r-preserved c =
     let low : c.loop-r.r < rule_count c.args.table.now = omega (arith, c.loop-r.invariant.1, c.loop-r-test.true) in (
       omega (arith, c.loop-r-test.true),
       c.loop-r.invariant.1,
-      c.put.auto.0 ∙ c.loop-r.invariant.2,
+      c.put.auto.s ∙ c.loop-r.invariant.2,
       size_more c.loop-r.invariant.3 low c.put.new.s c.length_of-n.result c.length_of-n.ensures (omega (arith, c.if-n-gt2048.false)) c.put.ensures,
     )
 

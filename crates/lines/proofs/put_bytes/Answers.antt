@@ -22,7 +22,10 @@ loop-i-preserved c =
 pub returns : goal.returns
 returns c =
     let a = c.args in
-    (omega arith, taken_all a.bytes.now a.out.now c.loop-i.out c.loop-i.i (omega arith) c.loop-i.invariant.2)
+    record {
+      value = omega arith;
+      out_after = taken_all a.bytes.now a.out.now c.loop-i.out c.loop-i.i (omega arith) c.loop-i.invariant.2;
+    }
 
 pub shape_of-out : goal.shape_of-out
 shape_of-out c = c.loop-i.invariant.1

@@ -45,7 +45,8 @@ loop-i-preserved c =
 pub returns : goal.returns
 returns c =
     let numbers = c.args.numbers.now in
-    turns_all (line_at decimal numbers) c.loop-i.i (length numbers) (omega arith) (lines_turns decimal numbers) c.loop-i.invariant.2
+    let (first, second) = turns_all (line_at decimal numbers) c.loop-i.i (length numbers) (omega arith) (lines_turns decimal numbers) c.loop-i.invariant.2 in
+    record { value = first; out_after = second }
 
 pub shape_of-out : goal.shape_of-out
 shape_of-out c = c.loop-i.invariant.1

@@ -5,4 +5,5 @@ use Rattle.lines.proofs.put_line.Goals as goal
 
 pub returns : goal.returns
 returns c =
-    line_stored c.args.bytes.now c.args.out.now c.put_bytes-n.new.out c.put_bytes-n.result c.requires c.put_bytes-n.ensures.value c.put_bytes-n.ensures.out_after
+    let (first, second) = line_stored c.args.bytes.now c.args.out.now c.put_bytes-n.new.out c.put_bytes-n.result c.requires c.put_bytes-n.ensures.value c.put_bytes-n.ensures.out_after in
+    record { value = first; out_after = second }

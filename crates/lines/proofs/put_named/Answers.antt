@@ -11,4 +11,5 @@ overflow_add-result c =
 
 pub returns : goal.returns
 returns c =
-    named_stored c.args.name.now c.args.number c.args.out.now c.put_bytes-n.result c.put_decimal_line-m.result c.put_bytes-n.new.out c.put_decimal_line-m.new.out c.requires c.put_bytes-n.ensures.value c.put_bytes-n.ensures.out_after c.put_decimal_line-m.ensures.value c.put_decimal_line-m.ensures.out_after
+    let (first, second) = named_stored c.args.name.now c.args.number c.args.out.now c.put_bytes-n.result c.put_decimal_line-m.result c.put_bytes-n.new.out c.put_decimal_line-m.new.out c.requires c.put_bytes-n.ensures.value c.put_bytes-n.ensures.out_after c.put_decimal_line-m.ensures.value c.put_decimal_line-m.ensures.out_after in
+    record { value = first; out_after = second }

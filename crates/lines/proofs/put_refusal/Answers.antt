@@ -15,10 +15,16 @@ unfolding refusal
 returns-in_default c =
     let a = c.args in
     let none = ap refusal c.in_default.is in
-    (sym (ap length none), sym (ap (λ (l : List ℕ). placed l a.out.now) none ∙ placed_none a.out.now))
+    record {
+      value = sym (ap length none);
+      out_after = sym (ap (λ (l : List ℕ). placed l a.out.now) none ∙ placed_none a.out.now);
+    }
 
 pub returns : goal.returns
 unfolding refusal
 returns c =
     let line : refusal c.args.answer ≡ named refused_name c.wide.result = ap refusal c.in-Refused.is ∙ ap (λ (n : ℕ). named refused_name n) (sym c.wide.ensures) in
-    (c.put_named.ensures.value ∙ ap length (sym line), c.put_named.ensures.out_after ∙ ap (λ (l : List ℕ). placed l c.args.out.now) (sym line))
+    record {
+      value = c.put_named.ensures.value ∙ ap length (sym line);
+      out_after = c.put_named.ensures.out_after ∙ ap (λ (l : List ℕ). placed l c.args.out.now) (sym line);
+    }

@@ -59,7 +59,8 @@ loop-i-preserved c =
 pub returns : goal.returns
 returns c =
     let bytes = c.args.bytes.now in
-    turns_all (spaced_at bytes) c.loop-i.i (length bytes) (omega arith) (spaced_turns bytes) c.loop-i.invariant.2
+    let (first, second) = turns_all (spaced_at bytes) c.loop-i.i (length bytes) (omega arith) (spaced_turns bytes) c.loop-i.invariant.2 in
+    record { value = first; out_after = second }
 
 pub shape_of-out : goal.shape_of-out
 shape_of-out c = c.loop-i.invariant.1

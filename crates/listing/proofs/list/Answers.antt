@@ -16,7 +16,7 @@ list_rule-requires c =
 pub returns : goal.returns
 returns c h e =
     let a = c.args in
-    root_done h a.from a.rules e c.list_rule.result a.result.now c.list_rule.new.res c.list_rule.ensures
+    root_done h a.from a.rules e c.list_rule.result a.res.now c.list_rule.new.res c.list_rule.ensures
 
 pub overflow_add-from : goal.overflow_add-from
 overflow_add-from c = omega (arith, c.requires.2)

@@ -14,7 +14,7 @@ pub returns-then-c-eq0 : goal.returns-then-c-eq0
 returns-then-c-eq0 c =
     let a = c.args in
     let e = drive_cut_none a.first a.join a.c c.if-c-eq0.true in
-    (omega (arith, ap length e), sym (ap (λ (l : List ℕ). placed_from a.n l a.result.now) e ∙ from_none a.n a.result.now))
+    (omega (arith, ap length e), sym (ap (λ (l : List ℕ). placed_from a.n l a.res.now) e ∙ from_none a.n a.res.now))
 
 pub list_one-requires : goal.list_one-requires
 list_one-requires c =
@@ -25,4 +25,4 @@ pub returns : goal.returns
 returns c =
     let a = c.args in
     let e = drive_cut_one a.first a.join a.c c.if-c-eq0.false in
-    (c.list_one.ensures.0 ∙ ap (λ (l : List ℕ). a.n + length l) e, c.list_one.ensures.1 ∙ ap (λ (l : List ℕ). placed_from a.n l a.result.now) e)
+    (c.list_one.ensures.0 ∙ ap (λ (l : List ℕ). a.n + length l) e, c.list_one.ensures.1 ∙ ap (λ (l : List ℕ). placed_from a.n l a.res.now) e)

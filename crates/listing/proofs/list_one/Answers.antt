@@ -14,14 +14,14 @@ pub returns-then-place-first : goal.returns-then-place-first
 returns-then-place-first c =
     let a = c.args in
     let e = drive_before a.first a.place c.if-place-first.true in
-    (omega (arith, ap length e), sym (ap (λ (l : List _). placed_from a.n l a.result.now) e ∙ from_none a.n a.result.now))
+    (omega (arith, ap length e), sym (ap (λ (l : List _). placed_from a.n l a.res.now) e ∙ from_none a.n a.res.now))
 
 pub returns : goal.returns
 returns c =
     let a = c.args in
     let e = drive_there a.first a.place (omega (arith, c.if-place-first.false)) in (
       omega (arith, ap length e),
-      from_one_lem a.n a.result.now (a.place - a.first) (omega (arith, ap length e, c.requires.1)) ∙ sym (ap (λ (l : List _). placed_from a.n l a.result.now) e),
+      from_one_lem a.n a.res.now (a.place - a.first) (omega (arith, ap length e, c.requires.1)) ∙ sym (ap (λ (l : List _). placed_from a.n l a.res.now) e),
     )
 
 pub bounds-res-n : goal.bounds-res-n

@@ -25,7 +25,7 @@ bounds-work-position c =
     let h = c.requires.0 in
     let n = c.text_length-n.result in
     let q = c.text_length-n.ensures h c.requires.1 in
-    omega (arith, c.place_array.auto.1.0, room h n q, low h n q c.args.position c.range_fits-a.result c.range_fits-a.ensures c.in-Done.is)
+    omega (arith, c.place_array.auto.work, room h n q, low h n q c.args.position c.range_fits-a.result c.range_fits-a.ensures c.in-Done.is)
 
 pub returns : goal.returns
 returns c h e =

@@ -5,4 +5,4 @@ use Rattle.longest.proofs.place_array.Goals as goal
 
 pub returns : goal.returns
 returns c h e =
-    array_stands h c.args.n e c.ends.new.work c.ends.ensures c.ends.auto.0
+    array_stands h c.args.n e c.ends.new.work c.ends.ensures c.ends.auto.work

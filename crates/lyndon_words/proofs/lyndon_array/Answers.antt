@@ -11,7 +11,7 @@ use Rattle.lyndon_words.proofs.lyndon_array.Goals as goal
 pub returns-in_default : goal.returns-in_default
 unfolding lyndon_array_service
 returns-in_default c =
-    opening_refused _ c.admit-a.ensures c.in_default.is (answer_refuses c.admit-a.result) (λ d. refl)
+    opening_refused _ c.admit-a.ensures c.in_default.is (answer_refuses c.admit-a.res) (λ d. refl)
 
 -- the table is opened
 succeeded : (k : In-Done) → let a = k.args in
@@ -31,4 +31,4 @@ pub returns : goal.returns
 unfolding lyndon_array_service ready
 returns c =
     let x = succeeded (goal.at.returns c).In-Done in
-    opening_lent x (refl, refl) c.array_loaded-written.new.work c.array_loaded-written.auto.1.0 c.clear_front.ensures (c.array_loaded-written.ensures (ready x.loads) x.rules)
+    opening_lent x (refl, refl) c.array_loaded-written.new.work c.array_loaded-written.auto.work c.clear_front.ensures (c.array_loaded-written.ensures (ready x.loads) x.rules)

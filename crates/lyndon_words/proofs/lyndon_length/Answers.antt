@@ -31,4 +31,4 @@ pub returns : goal.returns
 unfolding lyndon_length_service ready
 returns c =
     let x = succeeded (goal.at.returns c).In-Done in
-    opening_lent x (refl, refl) c.length_loaded-b.new.work c.length_loaded-b.auto.1.1.0 c.clear_front.ensures (c.length_loaded-b.ensures (ready x.loads) x.rules)
+    opening_lent x (refl, refl) c.length_loaded-b.new.work c.length_loaded-b.auto.work c.clear_front.ensures (c.length_loaded-b.ensures (ready x.loads) x.rules)

@@ -12,7 +12,10 @@ use Rattle.motif_output.proofs.answer.Goals as goal
 pub returns-in_default : goal.returns-in_default
 returns-in_default c =
     let e = drive_refused c.args.input.now c.build_drive-a.result _ c.build_drive-a.new.table c.build_drive-a.ensures _ _ c.in_default.is in
-    (c.put_refusal.ensures.value ∙ ap length e, c.put_refusal.ensures.out_after ∙ ap (λ (x : List ℕ). placed x c.args.out.now) e)
+    record {
+      value = c.put_refusal.ensures.value ∙ ap length e;
+      out_after = c.put_refusal.ensures.out_after ∙ ap (λ (x : List ℕ). placed x c.args.out.now) e;
+    }
 
 pub slice_bounds-answer_built-end : goal.slice_bounds-answer_built-end
 slice_bounds-answer_built-end c =
@@ -25,4 +28,7 @@ answer_built-requires c =
 pub returns : goal.returns
 returns c =
     let e = (drive_done c.args.input.now c.build_drive-a.result _ c.build_drive-a.new.table c.build_drive-a.ensures _ c.in-Done.is).2 in
-    (c.answer_built.ensures.value ∙ ap length e, c.answer_built.ensures.out_after ∙ ap (λ (x : List ℕ). placed x c.args.out.now) e)
+    record {
+      value = c.answer_built.ensures.value ∙ ap length e;
+      out_after = c.answer_built.ensures.out_after ∙ ap (λ (x : List ℕ). placed x c.args.out.now) e;
+    }

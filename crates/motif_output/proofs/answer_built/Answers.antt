@@ -15,7 +15,10 @@ use Rattle.motif_output.proofs.answer_built.Goals as goal
 pub returns-in_default : goal.returns-in_default
 returns-in_default c =
     let e = motif_refused c.args.input.now c.locate_motif-a.result _ c.locate_motif-a.new.positions c.locate_motif-a.ensures _ _ c.in_default.is in
-    (c.put_refusal.ensures.value ∙ ap length e, c.put_refusal.ensures.out_after ∙ ap (λ (x : List ℕ). placed x c.args.out.now) e)
+    record {
+      value = c.put_refusal.ensures.value ∙ ap length e;
+      out_after = c.put_refusal.ensures.out_after ∙ ap (λ (x : List ℕ). placed x c.args.out.now) e;
+    }
 
 pub slice_bounds-rules_and_found-end : goal.slice_bounds-rules_and_found-end
 slice_bounds-rules_and_found-end c =
@@ -33,4 +36,7 @@ pub returns : goal.returns
 returns c =
     let (fits, finds, output) = motif_done c.args.input.now c.locate_motif-a.result _ c.locate_motif-a.new.positions c.locate_motif-a.ensures _ c.in-Done.is in
     let e = ap₂ {C = List ℕ} (λ t p. named rules_name (rule_count t) ++ found_lines p) c.requires.0.table finds ∙ output in
-    (c.rules_and_found.ensures.value ∙ ap length e, c.rules_and_found.ensures.out_after ∙ ap (λ (x : List ℕ). placed x c.args.out.now) e)
+    record {
+      value = c.rules_and_found.ensures.value ∙ ap length e;
+      out_after = c.rules_and_found.ensures.out_after ∙ ap (λ (x : List ℕ). placed x c.args.out.now) e;
+    }

@@ -9,15 +9,15 @@ use Rattle.motif_output.proofs.found_lines.Goals as goal
 
 pub slice_bounds-put_decimal_lines-count : goal.slice_bounds-put_decimal_lines-count
 slice_bounds-put_decimal_lines-count c =
-    omega (arith, c.put_named-n.ensures.value, c.put_named-n.auto.1.1.0, named_most found_name (length c.args.positions.now))
+    omega (arith, c.put_named-n.ensures.value, c.put_named-n.auto.out, named_most found_name (length c.args.positions.now))
 
 pub slice_bounds-put_decimal_lines-start : goal.slice_bounds-put_decimal_lines-start
 slice_bounds-put_decimal_lines-start c =
-    omega (arith, c.put_named-n.ensures.value, c.put_named-n.auto.1.1.0, named_most found_name (length c.args.positions.now))
+    omega (arith, c.put_named-n.ensures.value, c.put_named-n.auto.out, named_most found_name (length c.args.positions.now))
 
 pub put_decimal_lines-m-requires : goal.put_decimal_lines-m-requires
 put_decimal_lines-m-requires c =
-    simp (length-take, length-drop) (omega (arith, c.put_named-n.ensures.value, c.put_named-n.auto.1.1.0, named_most found_name (length c.args.positions.now)))
+    simp (length-take, length-drop) (omega (arith, c.put_named-n.ensures.value, c.put_named-n.auto.out, named_most found_name (length c.args.positions.now)))
 
 pub overflow_add-result : goal.overflow_add-result
 overflow_add-result c =
@@ -27,4 +27,5 @@ pub returns : goal.returns
 unfolding found_lines
 returns c =
     let t = c.args.positions.now in
-    both_stored (named found_name (length t)) (lines_of decimal t) c.args.out.now c.put_named-n.new.out c.put_decimal_lines-m.new.out c.put_named-n.result c.put_decimal_lines-m.result (omega (arith, named_most found_name (length t), decimals_most t)) c.put_named-n.ensures.value c.put_named-n.ensures.out_after c.put_decimal_lines-m.ensures.value c.put_decimal_lines-m.ensures.out_after
+    let (first, second) = both_stored (named found_name (length t)) (lines_of decimal t) c.args.out.now c.put_named-n.new.out c.put_decimal_lines-m.new.out c.put_named-n.result c.put_decimal_lines-m.result (omega (arith, named_most found_name (length t), decimals_most t)) c.put_named-n.ensures.value c.put_named-n.ensures.out_after c.put_decimal_lines-m.ensures.value c.put_decimal_lines-m.ensures.out_after in
+    record { value = first; out_after = second }

@@ -10,15 +10,15 @@ use Rattle.motif_output.proofs.rules_and_found.Goals as goal
 
 pub slice_bounds-found_lines-count : goal.slice_bounds-found_lines-count
 slice_bounds-found_lines-count c =
-    omega (arith, c.put_named-n.ensures.value, c.put_named-n.auto.1.1.0, named_most rules_name c.args.rules)
+    omega (arith, c.put_named-n.ensures.value, c.put_named-n.auto.out, named_most rules_name c.args.rules)
 
 pub slice_bounds-found_lines-start : goal.slice_bounds-found_lines-start
 slice_bounds-found_lines-start c =
-    omega (arith, c.put_named-n.ensures.value, c.put_named-n.auto.1.1.0, named_most rules_name c.args.rules)
+    omega (arith, c.put_named-n.ensures.value, c.put_named-n.auto.out, named_most rules_name c.args.rules)
 
 pub found_lines-m-requires : goal.found_lines-m-requires
 found_lines-m-requires c =
-    simp (length-take, length-drop) (omega (arith, c.put_named-n.ensures.value, c.put_named-n.auto.1.1.0, named_most rules_name c.args.rules))
+    simp (length-take, length-drop) (omega (arith, c.put_named-n.ensures.value, c.put_named-n.auto.out, named_most rules_name c.args.rules))
 
 pub overflow_add-result : goal.overflow_add-result
 overflow_add-result c =
@@ -27,4 +27,5 @@ overflow_add-result c =
 pub returns : goal.returns
 returns c =
     let t = c.args.positions.now in
-    both_stored (named rules_name c.args.rules) (found_lines t) c.args.out.now c.put_named-n.new.out c.found_lines-m.new.out c.put_named-n.result c.found_lines-m.result (omega (arith, named_most rules_name c.args.rules, found_most t)) c.put_named-n.ensures.value c.put_named-n.ensures.out_after c.found_lines-m.ensures.value c.found_lines-m.ensures.out_after
+    let (first, second) = both_stored (named rules_name c.args.rules) (found_lines t) c.args.out.now c.put_named-n.new.out c.found_lines-m.new.out c.put_named-n.result c.found_lines-m.result (omega (arith, named_most rules_name c.args.rules, found_most t)) c.put_named-n.ensures.value c.put_named-n.ensures.out_after c.found_lines-m.ensures.value c.found_lines-m.ensures.out_after in
+    record { value = first; out_after = second }

@@ -4,7 +4,13 @@ use borrow.Author.Rules.{rules}
 use Rattle.naive.proofs.noted.Goals as goal
 
 pub returns-then-found : goal.returns-then-found
-returns-then-found c = (simp c.if-found.true, simp c.if-found.true)
+returns-then-found c = record {
+  value = simp c.if-found.true;
+  places_after = simp c.if-found.true;
+}
 
 pub returns : goal.returns
-returns c = (simp c.if-found.false (omega arith), simp c.if-found.false)
+returns c = record {
+  value = simp c.if-found.false (omega arith);
+  places_after = simp c.if-found.false;
+}

@@ -24,12 +24,13 @@ pub loop-i-preserved : goal.loop-i-preserved
 loop-i-preserved c =
     let a = c.args in
     let more = one_more (begins_in a.pattern.now a.text.now) c.loop-i.i (omega arith) c.loop-i.invariant.2 c.begins_at-found.ensures c.noted-n.ensures.value c.noted-n.ensures.places_after in
-    (omega arith, c.noted-n.auto.1.1.1.0 ∙ c.loop-i.invariant.1, more)
+    (omega arith, c.noted-n.auto.places ∙ c.loop-i.invariant.1, more)
 
 pub returns : goal.returns
 returns c =
     let a = c.args in
-    fronted_as (all_noted a.pattern.now a.text.now c.loop-i.i (omega arith)) c.loop-i.invariant.2
+    let (first, second) = fronted_as (all_noted a.pattern.now a.text.now c.loop-i.i (omega arith)) c.loop-i.invariant.2 in
+    record { value = first; places_after = second }
 
 pub begins_at-found-requires : goal.begins_at-found-requires
 begins_at-found-requires c = (omega arith, omega arith)

@@ -32,12 +32,13 @@ pub loop-c-preserved : goal.loop-c-preserved
 loop-c-preserved c =
     let a = c.args in
     let more = one_more (is_listed (map (rank_of sample_order) a.pattern.now)) c.loop-c.c (omega arith) c.loop-c.invariant.2 c.is_listed-listed.ensures c.noted-n.ensures.value c.noted-n.ensures.places_after in
-    (omega arith, c.noted-n.auto.1.1.1.0 ∙ c.loop-c.invariant.1, more)
+    (omega arith, c.noted-n.auto.places ∙ c.loop-c.invariant.1, more)
 
 pub returns : goal.returns
 returns c =
     let a = c.args in
-    fronted_as (all_listed sample_order a.pattern.now c.loop-c.c (omega arith) (omega arith)) c.loop-c.invariant.2
+    let (first, second) = fronted_as (all_listed sample_order a.pattern.now c.loop-c.c (omega arith) (omega arith)) c.loop-c.invariant.2 in
+    record { value = first; cuts_after = second }
 
 pub shape_of-cuts : goal.shape_of-cuts
 shape_of-cuts c = c.loop-c.invariant.1

@@ -24,12 +24,13 @@ pub loop-i-preserved : goal.loop-i-preserved
 loop-i-preserved c =
     let a = c.args in
     let more = one_more (follows_in a.pattern.now a.drive.now) c.loop-i.i (omega arith) c.loop-i.invariant.2 c.follows_at-found.ensures c.noted-n.ensures.value c.noted-n.ensures.places_after in
-    (omega arith, c.noted-n.auto.1.1.1.0 ∙ c.loop-i.invariant.1, more)
+    (omega arith, c.noted-n.auto.places ∙ c.loop-i.invariant.1, more)
 
 pub returns : goal.returns
 returns c =
     let a = c.args in
-    fronted_as (all_noted a.pattern.now a.drive.now c.loop-i.i (omega arith)) c.loop-i.invariant.2
+    let (first, second) = fronted_as (all_noted a.pattern.now a.drive.now c.loop-i.i (omega arith)) c.loop-i.invariant.2 in
+    record { value = first; places_after = second }
 
 pub follows_at-found-requires : goal.follows_at-found-requires
 follows_at-found-requires c = (omega arith, omega arith)

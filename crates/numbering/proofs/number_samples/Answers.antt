@@ -27,7 +27,7 @@ loop-i-preserved c =
     let a = c.args in (
       omega arith,
       omega arith,
-      c.step-t.auto.0 ∙ c.loop-i.invariant.2,
+      c.step-t.auto.work ∙ c.loop-i.invariant.2,
       c.step-t.ensures.1 ∙ c.loop-i.invariant.3,
       λ b.
           let below : Below b.origin c.loop-i.work = c.loop-i.invariant.3 ∙ b.below in

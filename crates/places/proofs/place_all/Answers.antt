@@ -18,7 +18,7 @@ pub loop-r-preserved : goal.loop-r-preserved
 loop-r-preserved c =
     let back : c.loop-r.r - 1 + 1 ≡ c.loop-r.r = omega arith in (
       omega arith,
-      c.place_halves.auto.0 ∙ c.loop-r.invariant.1,
+      c.place_halves.auto.work ∙ c.loop-r.invariant.1,
       λ g q k. c.place_halves.ensures g (omega arith) (subst (λ (n : ℕ). Placing g n c.loop-r.work) (sym back) (c.loop-r.invariant.2 g q k)),
     )
 

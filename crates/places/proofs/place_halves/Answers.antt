@@ -28,7 +28,7 @@ room c =
 
 pub put-requires-2 : goal.put-requires-2
 put-requires-2 c =
-    omega (arith, room (goal.at.put-requires-2 c).In-Pair, c.put.auto.0, c.requires.2.sizing.kept.long)
+    omega (arith, room (goal.at.put-requires-2 c).In-Pair, c.put.auto.s, c.requires.2.sizing.kept.long)
 
 pub returns : goal.returns
 returns c =

@@ -22,7 +22,7 @@ range s =
 
 pub put-requires : goal.put-requires
 put-requires c =
-    omega (arith, range (goal.at.put-requires c).Start, c.requires.2.built.long, c.size_all.auto.0)
+    omega (arith, range (goal.at.put-requires c).Start, c.requires.2.built.long, c.size_all.auto.work)
 
 pub place_all-requires : goal.place_all-requires
 place_all-requires c =

@@ -20,7 +20,7 @@ put-requires c =
 pub loop-r-preserved : goal.loop-r-preserved
 loop-r-preserved c = (
   omega arith,
-  c.put.auto.0 ∙ c.loop-r.invariant.1,
+  c.put.auto.s ∙ c.loop-r.invariant.1,
   λ g e s. let k = c.loop-r.invariant.2 g e s in
       let low : c.loop-r.r < rules_in g = omega (arith, c.loop-r-test.true) in
       size_more g c.loop-r.work c.loop-r.r k low c.put.new.s c.length_of-n.result (c.length_of-n.ensures g low k) c.put.ensures,

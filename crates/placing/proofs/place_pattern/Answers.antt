@@ -37,7 +37,7 @@ size l =
     let a = l.args in
     let m = PATTERN + length a.pattern.now - PATTERN in
     let k = CUTS + l.floor_log2-k.result + 1 - CUTS in
-    cuts_length a.work.now l.write.new.ranks _ l.list-n.new.cuts m k l.requires.2 (omega (arith, l.requires.1)) l.write.auto.1.1.0 refl (omega (arith, few (up l).After-floor_log2-k)) l.list-n.auto.1.1.0
+    cuts_length a.work.now l.write.new.ranks _ l.list-n.new.cuts m k l.requires.2 (omega (arith, l.requires.1)) l.write.auto.ranks refl (omega (arith, few (up l).After-floor_log2-k)) l.list-n.auto.cuts
 
 pub put-requires : goal.put-requires
 put-requires c =
@@ -69,4 +69,4 @@ pub overflow_add-n : goal.overflow_add-n
 overflow_add-n c = omega (arith, behind (goal.at.overflow_add-n c).After-list-n)
 
 pub shape_of-work : goal.shape_of-work
-shape_of-work c = c.put.auto.0 ∙ size (goal.at.shape_of-work c).After-list-n
+shape_of-work c = c.put.auto.s ∙ size (goal.at.shape_of-work c).After-list-n

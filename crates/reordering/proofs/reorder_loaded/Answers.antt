@@ -17,6 +17,6 @@ pub returns : goal.returns
 returns c h o e =
     let a = c.args in
     let (l, n) = c.rebuild-n.ensures h o e in
-    subst (λ (t : List ℕ). Serves (writes [] t 0 a.result.now) (Answers c.deliver_table.result) (c.deliver_table.new.res ∷ []))
+    subst (λ (t : List ℕ). Serves (writes [] t 0 a.res.now) (Answers c.deliver_table.result) (c.deliver_table.new.res ∷ []))
     (built_words sample_order h.text c.rebuild-n.new.work h.chair c.rebuild-n.result h.loaded.kept.stored l n)
     c.deliver_table.ensures

@@ -30,7 +30,8 @@ loop-i-preserved c =
 pub returns : goal.returns
 returns c =
     let a = c.args in
-    keys_all a.q a.text.now a.keys.now c.loop-i.keys c.loop-i.i (omega arith) c.loop-i.invariant.2
+    let (first, second) = keys_all a.q a.text.now a.keys.now c.loop-i.keys c.loop-i.i (omega arith) c.loop-i.invariant.2 in
+    record { value = first; keys_after = second }
 
 pub shape_of-keys : goal.shape_of-keys
 shape_of-keys c = c.loop-i.invariant.1

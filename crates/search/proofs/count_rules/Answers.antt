@@ -42,7 +42,7 @@ loop-r-preserved c =
     let a = c.args in
     let x = c.found_in-x.result.found in (
       omega (arith, c.loop-r-test.true),
-      c.put.auto.0 ∙ c.loop-r.invariant.1,
+      c.put.auto.s ∙ c.loop-r.invariant.1,
       counted_turn a.m a.n a.rules c.loop-r.r c.loop-r.tests c.found_in-x.result.tests a.work.now c.loop-r.work c.put.new.s x
           c.loop-r-test.true c.loop-r.invariant.2 c.found_in-x.ensures c.put.ensures,
       c.loop-r.invariant.3 ∙ sym (longest_kept a.m a.n c.loop-r.r c.loop-r.work c.put.new.s x (low (goal.at.loop-r-preserved c).Start c.loop-r.r c.loop-r-test.true) c.put.ensures),

@@ -63,7 +63,7 @@ returns c =
     let found = c.count_loaded-n.ensures (ready x.loads) refl x.rules in
     let number = length (finds a.content a.pattern.now (text_of sample_order a.table.now)) in
     passed (accepted (goal.at.returns c).After-admit-a)
-    (opening_lent x {others = []} refl c.count_loaded-n.new.work c.count_loaded-n.auto.1.1.1.0 c.clear_front.ensures
+    (opening_lent x {others = []} refl c.count_loaded-n.new.work c.count_loaded-n.auto.work c.clear_front.ensures
     (served none
     (c.with_tests-2.ensures
     ∙ tests_done (Done n.occurrences) n.tests number (ap (λ (i : ℕ). done i 0) found.number)

@@ -36,7 +36,7 @@ unfolding locate_service
 returns-in_default-a c =
     let a = c.args in
     grouped (search_checks a.content a.pattern.now) _ _
-    (passed (accepted (goal.at.returns-in_default-a c).After-admit-a) (opening_refused _ c.admit-a.ensures c.in_default-a.is (search_refuses c.admit-a.result c.with_tests-in_default-a.result c.with_tests-in_default-a.ensures) (λ d. refl)))
+    (passed (accepted (goal.at.returns-in_default-a c).After-admit-a) (opening_refused _ c.admit-a.ensures c.in_default-a.is (search_refuses c.admit-a.res c.with_tests-in_default-a.res c.with_tests-in_default-a.ensures) (λ d. refl)))
 
 -- and the table opened
 succeeded : (k : In-Done-a-2) → let a = k.args in
@@ -64,6 +64,6 @@ returns c =
     let x = succeeded (goal.at.returns c).In-Done-a-2 in
     grouped (search_checks a.content p) _ _
     (passed (accepted (goal.at.returns c).After-admit-a)
-    (opening_lent x (refl, refl) c.locate_loaded-b.new.work c.locate_loaded-b.auto.1.1.1.0 c.clear_front.ensures
-    (subst (λ (t : List ℕ). Serves (writes [] (finds a.content p (text_of sample_order a.table.now)) (length (tests sample_order t (searched a.content p))) a.result.now) (Searches c.locate_loaded-b.result) (c.locate_loaded-b.new.res ∷ []))
+    (opening_lent x (refl, refl) c.locate_loaded-b.new.work c.locate_loaded-b.auto.work c.clear_front.ensures
+    (subst (λ (t : List ℕ). Serves (writes [] (finds a.content p (text_of sample_order a.table.now)) (length (tests sample_order t (searched a.content p))) a.res.now) (Searches c.locate_loaded-b.result) (c.locate_loaded-b.new.res ∷ []))
     (opened_table x.loads) (c.locate_loaded-b.ensures (ready x.loads) refl x.rules))))

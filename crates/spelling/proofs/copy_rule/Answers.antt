@@ -36,8 +36,8 @@ returns c h e m =
       number = piece_count piece;
       front =
           c.write_samples.ensures
-          ∙ ap (λ (o : Order). placed (map (byte_of o) ranks) a.result.now) (sym e)
-          ∙ ap (λ (l : List ℕ). placed l a.result.now) piece.same;
+          ∙ ap (λ (o : Order). placed (map (byte_of o) ranks) a.res.now) (sym e)
+          ∙ ap (λ (l : List ℕ). placed l a.res.now) piece.same;
     }
 
 pub overflow_add-r : goal.overflow_add-r

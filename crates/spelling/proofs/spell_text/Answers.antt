@@ -21,4 +21,4 @@ pub returns : goal.returns
 returns c h e n =
     let a = c.args in
     let (mark, bytes) = root_spelled a.work.now h a.rules n in
-    (c.spell.ensures h e mark).front ∙ ap (λ (l : List ℕ). placed l a.result.now) bytes
+    (c.spell.ensures h e mark).front ∙ ap (λ (l : List ℕ). placed l a.res.now) bytes

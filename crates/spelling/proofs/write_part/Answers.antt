@@ -27,8 +27,8 @@ returns c h e fits =
     let piece = loaded_piece a.work.now h a.start a.count fits in
     let ranks = take (1 + a.start + a.count - (1 + a.start)) (drop (1 + a.start) a.work.now) in
     c.write_samples.ensures
-    ∙ ap (λ (o : Order). placed (map (byte_of o) ranks) a.result.now) (sym e)
-    ∙ ap (λ (l : List ℕ). placed l a.result.now) piece.same
+    ∙ ap (λ (o : Order). placed (map (byte_of o) ranks) a.res.now) (sym e)
+    ∙ ap (λ (l : List ℕ). placed l a.res.now) piece.same
 
 pub overflow_add-from : goal.overflow_add-from
 overflow_add-from c = omega (arith, inside (goal.at.overflow_add-from c).Start)

@@ -21,15 +21,15 @@ loop-i-preserved c =
     let a = c.args in
     let x = c.byte_of.ensures in (
       omega arith,
-      length-set c.loop-i.result c.loop-i.i c.byte_of.result ∙ c.loop-i.invariant.1,
-      ap (λ (b : ℕ). set c.loop-i.result c.loop-i.i b) x
-          ∙ mapped_more (byte_of sample_order) a.ranks.now a.result.now c.loop-i.result c.loop-i.i (omega arith) (omega arith) c.loop-i.invariant.2,
+      length-set c.loop-i.res c.loop-i.i c.byte_of.result ∙ c.loop-i.invariant.1,
+      ap (λ (b : ℕ). set c.loop-i.res c.loop-i.i b) x
+          ∙ mapped_more (byte_of sample_order) a.ranks.now a.res.now c.loop-i.res c.loop-i.i (omega arith) (omega arith) c.loop-i.invariant.2,
     )
 
 pub returns : goal.returns
 returns c =
     let a = c.args in
-    mapped_all (byte_of sample_order) a.ranks.now a.result.now c.loop-i.result c.loop-i.i (omega arith) c.loop-i.invariant.2
+    mapped_all (byte_of sample_order) a.ranks.now a.res.now c.loop-i.res c.loop-i.i (omega arith) c.loop-i.invariant.2
 
 pub shape_of-res : goal.shape_of-res
 shape_of-res c = c.loop-i.invariant.1

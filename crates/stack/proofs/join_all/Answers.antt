@@ -22,7 +22,7 @@ join_top-t-requires c =
 pub loop-left-preserved : goal.loop-left-preserved
 unfolding left_joins
 loop-left-preserved c = (
-  c.join_top-t.auto.0 ∙ c.loop-left.invariant.0,
+  c.join_top-t.auto.work ∙ c.loop-left.invariant.0,
   c.join_top-t.ensures.1 ∙ c.loop-left.invariant.1,
   λ p.
       let l = c.loop-left.invariant.2 p in

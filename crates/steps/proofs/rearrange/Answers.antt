@@ -16,7 +16,7 @@ loop-i-preserved c =
       omega arith,
       length-set c.loop-i.steps i c.wrapping_sub_u8.result ∙ c.loop-i.invariant.1,
       step_more a.text.now a.steps.now c.loop-i.steps i (λ j h. omega (arith, c.shared_slice_known-1.given j)) c.sample_before-before.result
-          c.wrapping_sub_u8.result (omega arith) (omega arith) (omega arith) c.sample_before-before.ensures c.wrapping_sub_u8.ensures c.loop-i.invariant.2,
+          c.wrapping_sub_u8.result (omega arith) (omega arith) (omega arith) c.sample_before-before.ensures c.wrapping_sub_u8.ensures.value c.loop-i.invariant.2,
     )
 
 pub returns : goal.returns

@@ -16,7 +16,7 @@ loop-i-preserved c =
     let b = c.wrapping_add_u8-sample in
     let (written, next) =
     sample_more a.steps.now a.text.now c.loop-i.text i (λ j h. omega (arith, c.shared_slice_known-1.given j)) c.loop-i.last b.result
-    (omega arith) (omega arith) c.loop-i.invariant.2 b.ensures c.loop-i.invariant.3 in
+    (omega arith) (omega arith) c.loop-i.invariant.2 b.ensures.value c.loop-i.invariant.3 in
     (omega arith, length-set c.loop-i.text i b.result ∙ c.loop-i.invariant.1, next, written)
 
 pub returns : goal.returns

@@ -31,7 +31,7 @@ loop-r-preserved c =
     let low : c.loop-r.r < rule_count c.args.table.now = omega (arith, c.loop-r.invariant.1, c.loop-r-test.true) in (
       omega (arith, c.loop-r-test.true),
       c.loop-r.invariant.1,
-      c.link.auto.0 ∙ c.loop-r.invariant.2,
+      c.link.auto.work ∙ c.loop-r.invariant.2,
       linked_more c.loop-r.invariant.3 low (c.is_new.ensures.0 (not-false c.is_new.result c.if-not-is_new.false-raw)) c.link.new.work c.link.ensures,
     )
 
