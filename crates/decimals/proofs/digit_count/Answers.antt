@@ -1,8 +1,6 @@
 -- `digit_count` takes a digit away a turn. The invariant: the digits of the whole are those counted and those of the rest.
-use mathlib.Core.Path.{◌≡◌}
-use Prim.Native.Nat.{◌+◌, ◌-◌, ◌≤◌}
+use Prim.Native.Nat.{◌-◌}
 use native.Mathlib.Omega.{arith}
-use Rattle.definitions.specs.Programs.{digits_up_to, digit_count}
 use Rattle.decimals.proofs.Digits.{count_starts, count_small, count_more, count_ends}
 use Rattle.decimals.proofs.digit_count.Goals as goal
 

@@ -1,6 +1,5 @@
 -- `put_decimal` writes the digits of a number, and the byte behind them.
 use native.Mathlib.Omega.{arith}
-use borrow.Author.Rules.{rules}
 use Rattle.decimals.proofs.Digits.{decimal_length, decimal_stored}
 use Rattle.decimals.proofs.put_decimal.Goals as goal
 

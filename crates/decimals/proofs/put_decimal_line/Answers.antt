@@ -1,6 +1,5 @@
 -- `put_decimal_line` writes a number and the byte that ends a line.
 use native.Mathlib.Omega.{arith}
-use borrow.Author.Rules.{rules}
 use Rattle.definitions.specs.Programs.{line}
 use Rattle.decimals.proofs.Digits.{count_range, decimal_length}
 use Rattle.decimals.proofs.put_decimal_line.Goals as goal
@@ -12,5 +11,4 @@ put_decimal-requires c =
 pub returns : goal.returns
 unfolding line
 returns c =
-    let (first, second) = c.put_decimal.ensures in
-    record { value = first; out_after = second }
+    record { value = c.put_decimal.ensures.value; out_after = c.put_decimal.ensures.out_after }

@@ -1,10 +1,8 @@
 -- `put_digits` stores the digits from the last to the first. The invariant: what is left to write, placed over what is written, is the whole.
-use mathlib.Core.Path.{◌≡◌, ◌∙◌, refl, sym}
-use Prim.Native.Nat.{◌+◌, ◌-◌, ◌%◌, ◌≤◌}
+use mathlib.Core.Path.{◌∙◌, refl, sym}
+use Prim.Native.Nat.{◌+◌, ◌-◌, ◌%◌}
 use native.Mathlib.Omega.{arith}
-use lib.ListN.{length, length-set}
-use Rattle.definitions.specs.Words.{placed}
-use Rattle.definitions.specs.Programs.{digits}
+use lib.ListN.{length-set}
 use Rattle.decimals.proofs.Digits.{digit_stored, digits_none}
 use Rattle.decimals.proofs.put_digits.Goals as goal
 

@@ -1,11 +1,9 @@
 -- `put_digits` stores the digits from the last to the first. The invariant: what is left to write, placed over what is written, is the whole.
-use mathlib.Core.Path.{◌≡◌, ◌∙◌, refl, sym}
-use Prim.Native.Nat.{◌+◌, ◌-◌, ◌%◌, ◌≤◌}
-use native.Mathlib.Omega.{arith}
-use lib.ListN.{length, length-set}
+use mathlib.Core.Path.{◌≡◌}
+use Prim.Native.Nat.{◌≤◌}
+use lib.ListN.{length}
 use Rattle.definitions.specs.Words.{placed}
 use Rattle.definitions.specs.Programs.{digits}
-use Rattle.decimals.proofs.Digits.{digit_stored, digits_none}
 use Rattle.decimals.proofs.put_digits.Given as goal
 
 abbrev pub invariant-loop-i : goal.invariant-loop-i

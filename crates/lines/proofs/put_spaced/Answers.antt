@@ -18,25 +18,19 @@ loop-i-init c =
     (omega arith, refl, turns_none (spaced_at a.bytes.now) a.out.now)
 
 -- each number is a byte, and there is room for one more
-module _ (t : tie.After-shared-slice-known2 invariant_loop decreases_loop) where
-  small : (j : ℕ) → length (spaced_at t.before.before.before.before.before.args.bytes.now j) ≤ 4
-  small j = let k = t.before.before.before.before in byte_most (get_or k.before.args.bytes.now j 0) (omega (arith, k.shared-slice-known.given j))
+module _ (t : In-loop-i) where
+  small : (j : ℕ) → length (spaced_at t.args.bytes.now j) ≤ 4
+  small j = byte_most (get_or t.args.bytes.now j 0) (omega (arith, t.type_inv.bytes j))
 
-  room : t.before.before.loop.n + 4 ≤ length t.before.before.before.before.before.args.out.now
+  room : t.loop-i.n + 4 ≤ length t.args.out.now
   room =
-      let at = t.before.before in
-      let s = at.before.before.before in
-      turns_room (spaced_at s.args.bytes.now) 4 at.loop.i (length s.args.bytes.now) (λ j h. small j) (omega (arith, t.before.loop-test.taken)) s.pre at.loop.inv.2
-
-pub overflow_cast-bytes : goal.overflow_cast-bytes
-overflow_cast-bytes c =
-    record { fits = omega (arith, c.shared_slice_known-1.given c.loop-i.i) }
+      turns_room (spaced_at t.args.bytes.now) 4 t.loop-i.i (length t.args.bytes.now) (λ j h. small j) (omega (arith, t.loop-i-test.true)) t.requires t.loop-i.invariant.2
 
 pub slice_bounds-put_decimal-count : goal.slice_bounds-put_decimal-count
-slice_bounds-put_decimal-count c = omega (arith, room c)
+slice_bounds-put_decimal-count c = omega (arith, room (goal.at.slice_bounds-put_decimal-count c).In-loop-i)
 
 pub slice_bounds-put_decimal-start : goal.slice_bounds-put_decimal-start
-slice_bounds-put_decimal-start c = omega (arith, room c)
+slice_bounds-put_decimal-start c = omega (arith, room (goal.at.slice_bounds-put_decimal-start c).In-loop-i)
 
 -- without what stands behind the number
 digits : (t : In-loop-i) → length (decimal (get_or t.args.bytes.now t.loop-i.i 0)) ≤ 3
@@ -44,15 +38,16 @@ digits t =
     omega (arith, small t t.loop-i.i, length-append (decimal (get_or t.args.bytes.now t.loop-i.i 0)) (32 ∷ []))
 
 pub put_decimal-n-requires : goal.put_decimal-n-requires
-put_decimal-n-requires c = simp (length-take, length-drop) (omega (arith, room c, digits (goal.at.put_decimal-n-requires c).In-loop-i))
+put_decimal-n-requires c = simp (length-take, length-drop) (omega (arith, room (goal.at.put_decimal-n-requires c).In-loop-i, digits (goal.at.put_decimal-n-requires c).In-loop-i))
 
 pub overflow_add-n : goal.overflow_add-n
 overflow_add-n c =
-    omega (arith, room t, digits (goal.at.overflow_add-n c).In-loop-i, c.put_decimal-n.ensures.value ∙ length-append (decimal (get_or c.args.bytes.now c.loop-i.i 0)) _)
+    omega (arith, room (goal.at.overflow_add-n c).In-loop-i, digits (goal.at.overflow_add-n c).In-loop-i, c.put_decimal-n.ensures.value ∙ length-append (decimal (get_or c.args.bytes.now c.loop-i.i 0)) _)
 
 pub loop-i-preserved : goal.loop-i-preserved
 loop-i-preserved c =
     let a = c.args in
+    let t = (goal.at.loop-i-preserved c).In-loop-i in
     let more = turns_stored (spaced_at a.bytes.now) c.loop-i.i refl (omega (arith, room t, small t c.loop-i.i)) c.loop-i.invariant.2 c.put_decimal-n.ensures.value c.put_decimal-n.ensures.out_after in
     (omega arith, more.0, more.1)
 

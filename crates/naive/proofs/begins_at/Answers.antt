@@ -1,9 +1,6 @@
 -- `begins_at` compares sample by sample. The invariant: the samples passed agree, so the rest decides.
-use mathlib.Core.Path.{◌≡◌, refl, sym, ◌∙◌}
-use Prim.Native.Nat.{◌+◌, ◌-◌, ◌≤◌}
+use mathlib.Core.Path.{refl, sym, ◌∙◌}
 use native.Mathlib.Omega.{arith}
-use lib.ListN.{length, drop}
-use Rattle.definitions.specs.Words.{begins}
 use Rattle.naive.proofs.Scanning.{starts, agrees, differs, text_ends, pattern_ends}
 use Rattle.naive.proofs.begins_at.Goals as goal
 

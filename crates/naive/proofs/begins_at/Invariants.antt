@@ -1,10 +1,8 @@
 -- `begins_at` compares sample by sample. The invariant: the samples passed agree, so the rest decides.
-use mathlib.Core.Path.{◌≡◌, refl, sym, ◌∙◌}
+use mathlib.Core.Path.{◌≡◌}
 use Prim.Native.Nat.{◌+◌, ◌-◌, ◌≤◌}
-use native.Mathlib.Omega.{arith}
 use lib.ListN.{length, drop}
 use Rattle.definitions.specs.Words.{begins}
-use Rattle.naive.proofs.Scanning.{starts, agrees, differs, text_ends, pattern_ends}
 use Rattle.naive.proofs.begins_at.Given as goal
 
 abbrev pub invariant-loop-k : goal.invariant-loop-k

@@ -1,6 +1,5 @@
 -- `noted` stores where the place is one.
 use native.Mathlib.Omega.{arith}
-use borrow.Author.Rules.{rules}
 use Rattle.naive.proofs.noted.Goals as goal
 
 pub returns-then-found : goal.returns-then-found

@@ -1,13 +1,10 @@
 -- `scan` goes over every place of the text. The invariant: the places passed at which the pattern begins stand at the front of the slice.
-use mathlib.Core.Path.{◌≡◌, refl, ◌∙◌}
+use mathlib.Core.Path.{◌≡◌}
 use Prim.Native.Nat.{◌+◌, ◌-◌, ◌≤◌}
-use native.Mathlib.Omega.{arith}
 use lib.ListN.{length}
 use Rattle.definitions.specs.Words.{below}
-use Rattle.lists.specs.Lists.{Fronted, fronted_as}
-use Rattle.lists.specs.Numbers.{below_length}
-use Rattle.naive.proofs.Scanning.{begins_in, all_noted}
-use Rattle.naive.proofs.Noting.{none_noted, one_more}
+use Rattle.lists.specs.Lists.{Fronted}
+use Rattle.naive.proofs.Scanning.{begins_in}
 use Rattle.naive.proofs.scan.Given as goal
 
 abbrev pub invariant-loop-i : goal.invariant-loop-i

@@ -1,6 +1,5 @@
 -- `distinct_runs` goes over the places at which there is a run. The invariant: the runs counted, and those that are left from the place reached on, are all.
 use mathlib.Core.Path.{◌≡◌}
-use mathlib.Core.Logic.{⊎_elim}
 use Prim.Native.Nat.{◌+◌, ◌-◌, ◌≤◌}
 use native.Mathlib.Omega.{arith}
 use lib.ListN.{length}
@@ -8,6 +7,7 @@ use borrow.Author.Tests.{not-true, not-false}
 use Rattle.definitions.specs.Services.{sample_order}
 use Rattle.lyndon.specs.Ranks.{slice_bytes}
 use Rattle.naive_census.proofs.Standing.{left, left_all, left_none, next_later, next_counted}
+use Rattle.naive_census.proofs.distinct_runs.Goals.{then-not-stands_later, else-not-stands_later}
 use Rattle.naive_census.proofs.distinct_runs.Goals as goal
 
 pub loop-i-init : goal.loop-i-init
@@ -22,10 +22,10 @@ loop-i-preserved c =
     let h : i + q ≤ length drive = omega (arith, c.loop-i-test.true, c.loop-i.invariant.0) in
     let some = c.requires.1 in
     let e = c.stands_later.ensures in
-    ⊎_elim
-    (λ w. (omega arith, omega (arith, w.1), omega (arith, w.1, c.loop-i.invariant.2, next_counted sample_order q drive i some h bytes _ e (not-true _ w.0.taken))))
-    (λ w. (omega arith, omega (arith, w.1), omega (arith, w.1, c.loop-i.invariant.2, next_later sample_order q drive i some h bytes _ e (not-false _ w.0.left))))
-    c.if-not-stands_later.branch
+    elim c.if-not-stands_later.branch [
+      then-not-stands_later w ↦ (omega arith, omega arith, omega (arith, c.loop-i.invariant.2, next_counted sample_order q drive i some h bytes _ e w.if-not-stands_later.true))
+    | else-not-stands_later w ↦ (omega arith, omega arith, omega (arith, c.loop-i.invariant.2, next_later sample_order q drive i some h bytes _ e w.if-not-stands_later.false))
+    ]
 
 pub returns : goal.returns
 returns c =

@@ -14,10 +14,6 @@ use Rattle.naive.proofs.Noting.{one_more}
 use Rattle.naive_cuts.proofs.Cutting.{none_listed, all_listed}
 use Rattle.naive_cuts.proofs.list.Goals as goal
 
--- the listed cuts of a pattern below c
-abbrev listed_below : List ℕ → ℕ → List ℕ
-listed_below pattern c = below (is_listed (map (rank_of sample_order) pattern)) c
-
 pub loop-c-init : goal.loop-c-init
 loop-c-init c =
     let a = c.args in

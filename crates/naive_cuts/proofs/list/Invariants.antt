@@ -15,7 +15,7 @@ use Rattle.naive_cuts.proofs.Cutting.{none_listed, all_listed}
 use Rattle.naive_cuts.proofs.list.Given as goal
 
 abbrev pub invariant-loop-c : goal.invariant-loop-c
-invariant-loop-c l = (l.c ≤ length l.pattern - 1 + 1) × (length l.cuts ≡ length l.initial.cuts) × Fronted (listed_below l.pattern l.c) l.initial.cuts l.n l.cuts
+invariant-loop-c l = (l.c ≤ length l.pattern - 1 + 1) × (length l.cuts ≡ length l.initial.cuts) × Fronted (below (is_listed (map (rank_of sample_order) l.pattern)) l.c) l.initial.cuts l.n l.cuts
 
 abbrev pub decreases-loop-c : goal.decreases-loop-c
 decreases-loop-c l = length l.pattern - l.c

@@ -1,6 +1,5 @@
 -- `difference` is the definition's step: a byte is below 256.
 use mathlib.Core.Path.{refl}
-use borrow.Author.Rules.{rules}
 use Rattle.definitions.specs.Steps.{step}
 use Rattle.naive_steps.proofs.difference.Goals as goal
 

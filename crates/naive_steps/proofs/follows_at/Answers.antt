@@ -1,10 +1,6 @@
 -- `follows_at` compares step by step. The invariant: the steps passed agree, so the rest decides.
-use mathlib.Core.Path.{◌≡◌, refl, sym, ◌∙◌}
-use Prim.Native.Nat.{◌+◌, ◌-◌, ◌≤◌, ◌<◌}
+use mathlib.Core.Path.{refl, sym, ◌∙◌}
 use native.Mathlib.Omega.{arith}
-use lib.ListN.{length, drop}
-use Rattle.definitions.specs.Words.{begins}
-use Rattle.definitions.specs.Steps.{steps_of}
 use Rattle.naive_steps.proofs.Following.{starts, agrees, differs, drive_ends, pattern_ends}
 use Rattle.naive_steps.proofs.follows_at.Goals as goal
 

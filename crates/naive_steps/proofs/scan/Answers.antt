@@ -1,10 +1,7 @@
 -- `scan` goes over every position of the drive. The invariant: those passed from which the same steps follow stand at the front of the slice.
-use mathlib.Core.Path.{◌≡◌, refl, ◌∙◌}
-use Prim.Native.Nat.{◌-◌, ◌≤◌}
+use mathlib.Core.Path.{refl, ◌∙◌}
 use native.Mathlib.Omega.{arith}
-use lib.ListN.{length}
-use Rattle.definitions.specs.Words.{below}
-use Rattle.lists.specs.Lists.{Fronted, fronted_as}
+use Rattle.lists.specs.Lists.{fronted_as}
 use Rattle.lists.specs.Numbers.{below_length}
 use Rattle.naive.proofs.Noting.{none_noted, one_more}
 use Rattle.naive_steps.proofs.Following.{follows_in, all_noted}

@@ -1,13 +1,8 @@
 -- `count` adds rule by rule. The invariant: what is counted are the tests of the rules passed, at most 64 each.
-use mathlib.Core.Path.{◌≡◌, sym, ◌∙◌}
-use Prim.Native.Nat.{◌-◌, ◌*◌, ◌≤◌}
+use mathlib.Core.Path.{sym, ◌∙◌}
 use native.Mathlib.Omega.{arith}
 use borrow.Author.Rules.{rules}
-use lib.ListN.{length}
-use Rattle.definitions.specs.declared.Order.{Order}
 use Rattle.definitions.specs.Table.{rule_count}
-use Rattle.definitions.specs.Occurrences.{tests_below}
-use Rattle.naive_tests.specs.Lengths.{Measured}
 use Rattle.naive_tests.proofs.Testing.{no_rule, rule_more, all_rules}
 use Rattle.naive_tests.proofs.count.Goals as goal
 

@@ -1,14 +1,11 @@
 -- `count` adds rule by rule. The invariant: what is counted are the tests of the rules passed, at most 64 each.
-use mathlib.Core.Path.{◌≡◌, sym, ◌∙◌}
+use mathlib.Core.Path.{◌≡◌}
 use Prim.Native.Nat.{◌-◌, ◌*◌, ◌≤◌}
-use native.Mathlib.Omega.{arith}
-use borrow.Author.Rules.{rules}
 use lib.ListN.{length}
 use Rattle.definitions.specs.declared.Order.{Order}
 use Rattle.definitions.specs.Table.{rule_count}
 use Rattle.definitions.specs.Occurrences.{tests_below}
 use Rattle.naive_tests.specs.Lengths.{Measured}
-use Rattle.naive_tests.proofs.Testing.{no_rule, rule_more, all_rules}
 use Rattle.naive_tests.proofs.count.Given as goal
 
 abbrev pub invariant-loop-r : goal.invariant-loop-r

@@ -1,6 +1,5 @@
 -- `is_tested` makes the definition's tests: a length as it is kept passes for a cut and a pattern whenever the length itself does.
 use native.Mathlib.Omega.{arith}
-use borrow.Author.Rules.{rules}
 use Rattle.definitions.specs.declared.Order.TheVariants.{Unsigned}
 use Rattle.naive_tests.proofs.Testing.{no_pair, left_short, right_decides}
 use Rattle.naive_tests.proofs.is_tested.Goals as goal

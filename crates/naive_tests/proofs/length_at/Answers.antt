@@ -1,5 +1,4 @@
 -- `length_at` reads the length of a rule that is measured; a word that names none of them stands for no symbols.
-use borrow.Author.Rules.{rules}
 use Rattle.naive_tests.proofs.Testing.{named, none_named}
 use Rattle.naive_tests.proofs.length_at.Goals as goal
 

@@ -2,7 +2,6 @@
 use mathlib.Core.Path.{◌≡◌}
 use Prim.Native.Nat.{◌+◌, ◌*◌}
 use native.Mathlib.Omega.{arith}
-use borrow.Author.Rules.{rules}
 use lib.ListN.{length, get_or}
 use Rattle.definitions.specs.declared.Order.{Order}
 use Rattle.definitions.specs.declared.Order.TheVariants.{Unsigned}
@@ -28,3 +27,9 @@ sum c o =
     let t = c.args.table.now in
     let r = c.args.r in
     pair_length o (strings o t r) (get_or t (2 * r) 0) (get_or t (2 * r + 1) 0) c.if-x-eq0.false c.length_at.result c.length_at-2.result (c.length_at.ensures t c.requires.0 o) (c.length_at-2.ensures t c.requires.0 o)
+
+pub returns-then-k-lt-MOST : goal.returns-then-k-lt-MOST
+returns-then-k-lt-MOST c = λ o. omega (arith, sum (goal.at.returns-then-k-lt-MOST c).After-length_at-2 o)
+
+pub returns-else-k-lt-MOST : goal.returns-else-k-lt-MOST
+returns-else-k-lt-MOST c = λ o. omega (arith, sum (goal.at.returns-else-k-lt-MOST c).After-length_at-2 o)

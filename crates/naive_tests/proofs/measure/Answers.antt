@@ -1,11 +1,7 @@
 -- `measure` goes from the first rule up. The invariant: the rules passed are measured.
-use mathlib.Core.Path.{◌≡◌, refl}
-use Prim.Native.Nat.{◌-◌, ◌≤◌}
+use mathlib.Core.Path.{refl}
 use native.Mathlib.Omega.{arith}
-use borrow.Author.Rules.{rules}
-use lib.ListN.{length, length-set}
-use Rattle.definitions.specs.Table.{rule_count}
-use Rattle.naive_tests.specs.Lengths.{Measured}
+use lib.ListN.{length-set}
 use Rattle.naive_tests.proofs.Testing.{none_measured, one_measured, all_measured}
 use Rattle.naive_tests.proofs.measure.Goals as goal
 

@@ -1,12 +1,9 @@
 -- `measure` goes from the first rule up. The invariant: the rules passed are measured.
-use mathlib.Core.Path.{◌≡◌, refl}
+use mathlib.Core.Path.{◌≡◌}
 use Prim.Native.Nat.{◌-◌, ◌≤◌}
-use native.Mathlib.Omega.{arith}
-use borrow.Author.Rules.{rules}
-use lib.ListN.{length, length-set}
+use lib.ListN.{length}
 use Rattle.definitions.specs.Table.{rule_count}
 use Rattle.naive_tests.specs.Lengths.{Measured}
-use Rattle.naive_tests.proofs.Testing.{none_measured, one_measured, all_measured}
 use Rattle.naive_tests.proofs.measure.Given as goal
 
 abbrev pub invariant-loop-r : goal.invariant-loop-r

@@ -1,13 +1,9 @@
 -- `tests_of` tries every cut. The invariant: the tests counted and those of the cuts that are left are all tests of the rule.
 use mathlib.Core.Path.{◌≡◌}
-use mathlib.Core.Logic.{⊎_elim}
 use Prim.Native.Nat.{◌+◌, ◌-◌, ◌≤◌}
-use native.Mathlib.Omega.{arith}
-use borrow.Author.Rules.{rules}
 use lib.ListN.{length, drop}
 use Rattle.definitions.specs.declared.Order.{Order}
 use Rattle.definitions.specs.Occurrences.{tests_of}
-use Rattle.naive_tests.proofs.Testing.{one_tested, none_tested, all_tested}
 use Rattle.naive_tests.proofs.tests_of.Given as goal
 
 abbrev pub invariant-loop-i : goal.invariant-loop-i

@@ -27,18 +27,18 @@ size : (c : After-list_keys-n) → c.list_keys-n.result ≡ length (counts_in c)
 size c = let a = c.args in c.list_keys-n.ensures.value ∙ sym (length-map (keys_in c) (count_of a.keys.now))
 
 keys : (c : After-list_keys-n) → take (c.list_keys-n.result - 0) c.list_keys-n.new.listed ≡ keys_in c
-keys c = listed_front (keys_in c) zeros c.list_keys-n.new.listed c.list_keys-n.result c.list_keys-n.ensures.value c.list_keys-n.ensures.listed_after.0
+keys c = listed_front (keys_in c) zeros c.list_keys-n.new.listed c.list_keys-n.result c.list_keys-n.ensures.value c.list_keys-n.ensures.listed_after
 
 numbers : (c : After-list_keys-n) → take (c.list_keys-n.result - 0) c.list_keys-n.new.counts ≡ counts_in c
-numbers c = listed_front (counts_in c) zeros c.list_keys-n.new.counts c.list_keys-n.result (size c) c.list_keys-n.ensures.listed_after.1
+numbers c = listed_front (counts_in c) zeros c.list_keys-n.new.counts c.list_keys-n.result (size c) c.list_keys-n.ensures.counts_after
 
 pub slice_bounds-deliver_listed-end : goal.slice_bounds-deliver_listed-end
 slice_bounds-deliver_listed-end c =
-    listed_fits (keys_in (goal.at.slice_bounds-deliver_listed-end c).After-list_keys-n) zeros c.list_keys-n.new.listed c.list_keys-n.result c.list_keys-n.ensures.value c.list_keys-n.ensures.listed_after.0
+    listed_fits (keys_in (goal.at.slice_bounds-deliver_listed-end c).After-list_keys-n) zeros c.list_keys-n.new.listed c.list_keys-n.result c.list_keys-n.ensures.value c.list_keys-n.ensures.listed_after
 
 pub slice_bounds-deliver_listed-end-2 : goal.slice_bounds-deliver_listed-end-2
 slice_bounds-deliver_listed-end-2 c =
-    listed_fits (counts_in (goal.at.slice_bounds-deliver_listed-end-2 c).After-list_keys-n) zeros c.list_keys-n.new.counts c.list_keys-n.result (size (goal.at.slice_bounds-deliver_listed-end-2 c).After-list_keys-n) c.list_keys-n.ensures.listed_after.1
+    listed_fits (counts_in (goal.at.slice_bounds-deliver_listed-end-2 c).After-list_keys-n) zeros c.list_keys-n.new.counts c.list_keys-n.result (size (goal.at.slice_bounds-deliver_listed-end-2 c).After-list_keys-n) c.list_keys-n.ensures.counts_after
 
 pub deliver_listed-requires : goal.deliver_listed-requires
 deliver_listed-requires c =

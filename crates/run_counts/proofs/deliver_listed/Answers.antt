@@ -6,12 +6,13 @@ use native.Mathlib.Omega.{arith}
 use native.Mathlib.Nat.{mul-le-mul}
 use lib.ListN.{length}
 use borrow.Author.Rules.{rules}
+use Rattle.definitions.specs.declared.Answer.TheVariants.{Done}
 use Rattle.definitions.specs.Services.{sample_order}
 use Rattle.definitions.specs.Census.{joined}
 use Rattle.results.proofs.Writing.{both_refused, both_fits, both_written}
 use Rattle.run_keys.specs.Keys.{run_with}
 use Rattle.run_keys.proofs.Writing.{runs_length}
-use Rattle.run_counts.proofs.deliver_listed.Goals.{After-both_fit-a, In-Done}
+use Rattle.run_counts.proofs.deliver_listed.Goals.{After-both_fit-a}
 use Rattle.run_counts.proofs.deliver_listed.Goals as goal
 
 pub overflow_mul-q : goal.overflow_mul-q
@@ -31,17 +32,17 @@ returns-in_default c =
     both_refused (wanted (goal.at.returns-in_default c).After-both_fit-a) a.numbers.now a.runs.now a.counts.now (a.q * length a.listed.now) (length a.listed.now) (size (goal.at.returns-in_default c).After-both_fit-a) (sym c.requires.2) c.both_fit-a.result c.both_fit-a.ensures c.in_default.is
 
 -- both fit
-room : (c : In-Done) → let a = c.args in (length (wanted (up c).After-both_fit-a) ≤ length a.runs.now) × (length a.numbers.now ≤ length a.counts.now)
-room c =
+room : (c : After-both_fit-a) {k : ℕ} → c.both_fit-a.result ≡ Done k → let a = c.args in (length (wanted c) ≤ length a.runs.now) × (length a.numbers.now ≤ length a.counts.now)
+room c e =
     let a = c.args in
-    both_fits (wanted (up c).After-both_fit-a) a.numbers.now a.runs.now a.counts.now (a.q * length a.listed.now) (length a.listed.now) (size (up c).After-both_fit-a) (sym c.requires.2) c.both_fit-a.result c.both_fit-a.ensures c.in-Done.is
+    both_fits (wanted c) a.numbers.now a.runs.now a.counts.now (a.q * length a.listed.now) (length a.listed.now) (size c) (sym c.requires.2) c.both_fit-a.result c.both_fit-a.ensures e
 
 pub write_runs-requires : goal.write_runs-requires
 write_runs-requires c =
-    (c.requires.0, c.requires.1, omega (arith, (room (goal.at.write_runs-requires c).In-Done).0, size (goal.at.write_runs-requires c).After-both_fit-a))
+    (c.requires.0, c.requires.1, omega (arith, (room (goal.at.write_runs-requires c).After-both_fit-a c.in-Done.is).0, size (goal.at.write_runs-requires c).After-both_fit-a))
 
 pub copy-requires : goal.copy-requires
-copy-requires c = (room (goal.at.copy-requires c).In-Done).1
+copy-requires c = (room (goal.at.copy-requires c).After-both_fit-a c.in-Done.is).1
 
 pub returns : goal.returns
 returns c =

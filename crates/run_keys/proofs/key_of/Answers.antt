@@ -1,13 +1,13 @@
 -- `key_of` takes a sample a turn as the next digit. The invariant: the key so far is that of the samples passed.
 use mathlib.Core.Path.{◌≡◌, refl}
-use Prim.Native.Nat.{ℕ, ◌+◌, ◌*◌, ◌-◌, ◌≤◌, ◌<◌}
+use Prim.Native.Nat.{ℕ, ◌+◌, ◌*◌, ◌-◌, ◌<◌}
 use native.Mathlib.Omega.{arith}
-use lib.ListN.{length, take, get_or}
+use lib.ListN.{take, get_or}
 use Rattle.definitions.specs.Table.{rank_of}
 use Rattle.definitions.specs.Services.{sample_order}
 use Rattle.run_keys.specs.Keys.{key_of}
 use Rattle.run_keys.proofs.Writing.{key_none, key_step, key_all}
-use Rattle.run_keys.proofs.key_of.Goals.{After-rank_of, In-loop-i}
+use Rattle.run_keys.proofs.key_of.Goals.{In-loop-i}
 use Rattle.run_keys.proofs.key_of.Goals as goal
 
 pub loop-i-init : goal.loop-i-init
@@ -29,21 +29,18 @@ overflow_mul-key c =
     let r = rank_of sample_order (get_or c.args.run.now c.loop-i.i 0) in
     omega (arith, (made (goal.at.overflow_mul-key c).In-loop-i r refl).2)
 
-more : (c : After-rank_of) → Made (up c).In-loop-i c.rank_of.result
-more c = made (up c).In-loop-i c.rank_of.result c.rank_of.ensures
-
 pub returns : goal.returns
 returns c =
     key_all c.args.run.now c.loop-i.i c.loop-i.key (omega arith) c.loop-i.invariant.1
 
 pub overflow_sub-key : goal.overflow_sub-key
-overflow_sub-key c = omega (arith, (more (goal.at.overflow_sub-key c).After-rank_of).0)
+overflow_sub-key c = omega (arith, (made (goal.at.overflow_sub-key c).In-loop-i c.rank_of.result c.rank_of.ensures).0)
 
 pub overflow_cast-key : goal.overflow_cast-key
-overflow_cast-key c = omega (arith, (more (goal.at.overflow_cast-key c).After-rank_of).1)
+overflow_cast-key c = omega (arith, (made (goal.at.overflow_cast-key c).In-loop-i c.rank_of.result c.rank_of.ensures).1)
 
 pub overflow_add-key : goal.overflow_add-key
-overflow_add-key c = omega (arith, (more (goal.at.overflow_add-key c).After-rank_of).2)
+overflow_add-key c = omega (arith, (made (goal.at.overflow_add-key c).In-loop-i c.rank_of.result c.rank_of.ensures).2)
 
 pub loop-i-preserved : goal.loop-i-preserved
-loop-i-preserved c = (omega arith, (more (goal.at.loop-i-preserved c).After-rank_of).3)
+loop-i-preserved c = (omega arith, (made (goal.at.loop-i-preserved c).In-loop-i c.rank_of.result c.rank_of.ensures).3)

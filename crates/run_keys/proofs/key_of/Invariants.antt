@@ -1,12 +1,9 @@
 -- `key_of` takes a sample a turn as the next digit. The invariant: the key so far is that of the samples passed.
-use mathlib.Core.Path.{◌≡◌, refl}
-use Prim.Native.Nat.{ℕ, ◌+◌, ◌*◌, ◌-◌, ◌≤◌, ◌<◌}
-use native.Mathlib.Omega.{arith}
-use lib.ListN.{length, take, get_or}
-use Rattle.definitions.specs.Table.{rank_of}
+use mathlib.Core.Path.{◌≡◌}
+use Prim.Native.Nat.{◌-◌, ◌≤◌}
+use lib.ListN.{length, take}
 use Rattle.definitions.specs.Services.{sample_order}
 use Rattle.run_keys.specs.Keys.{key_of}
-use Rattle.run_keys.proofs.Writing.{key_none, key_step, key_all}
 use Rattle.run_keys.proofs.key_of.Given as goal
 
 abbrev pub invariant-loop-i : goal.invariant-loop-i

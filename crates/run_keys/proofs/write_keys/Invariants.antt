@@ -1,12 +1,9 @@
 -- `write_keys` stores the key of the run at each position. The invariant: the keys of the positions passed stand at the front of the slice.
-use mathlib.Core.Path.{◌≡◌, refl, ◌∙◌, ap}
-use Prim.Native.Nat.{ℕ, ◌+◌, ◌-◌, ◌≤◌}
-use native.Mathlib.Omega.{arith}
-use lib.ListN.{length, take, drop, length-set, length-take, length-drop}
+use mathlib.Core.Path.{◌≡◌}
+use Prim.Native.Nat.{◌+◌, ◌-◌, ◌≤◌}
+use lib.ListN.{length}
 use Rattle.definitions.specs.Words.{placed}
-use Rattle.definitions.specs.Services.{sample_order}
-use Rattle.run_keys.specs.Keys.{key_of}
-use Rattle.run_keys.proofs.Writing.{keys_to, keys_none, keys_more, keys_all}
+use Rattle.run_keys.proofs.Writing.{keys_to}
 use Rattle.run_keys.proofs.write_keys.Given as goal
 
 abbrev pub invariant-loop-i : goal.invariant-loop-i

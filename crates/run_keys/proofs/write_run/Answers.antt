@@ -1,11 +1,8 @@
 -- `write_run` stores the samples from the last to the first. The invariant: what is left to write, placed over what is written, is the whole.
-use mathlib.Core.Path.{◌≡◌, ◌∙◌, refl, sym}
-use Prim.Native.Nat.{◌+◌, ◌-◌, ◌%◌, ◌≤◌}
+use mathlib.Core.Path.{◌∙◌, refl, sym}
+use Prim.Native.Nat.{◌+◌, ◌-◌, ◌%◌}
 use native.Mathlib.Omega.{arith}
-use lib.ListN.{length, length-set}
-use Rattle.definitions.specs.Words.{placed}
-use Rattle.definitions.specs.Services.{sample_order}
-use Rattle.run_keys.specs.Keys.{run_with}
+use lib.ListN.{length-set}
 use Rattle.run_keys.proofs.Writing.{sample_stored, samples_none}
 use Rattle.run_keys.proofs.write_run.Goals as goal
 

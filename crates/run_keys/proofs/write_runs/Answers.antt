@@ -1,10 +1,9 @@
 -- `write_runs` writes a run a turn, in the rest of the slice. The invariant: the runs of the keys passed stand at the front.
-use mathlib.Core.Path.{◌≡◌, refl}
-use Prim.Native.Nat.{◌+◌, ◌-◌, ◌≤◌}
+use mathlib.Core.Path.{refl}
+use Prim.Native.Nat.{◌+◌, ◌≤◌}
 use native.Mathlib.Omega.{arith}
 use lib.ListN.{length, length-take, length-drop}
-use Rattle.lists.specs.Lists.{Fronted}
-use Rattle.run_keys.proofs.Writing.{runs_to, runs_none, runs_room, runs_stored, runs_all}
+use Rattle.run_keys.proofs.Writing.{runs_none, runs_room, runs_stored, runs_all}
 use Rattle.run_keys.proofs.write_runs.Goals.{In-loop-i}
 use Rattle.run_keys.proofs.write_runs.Goals as goal
 
