@@ -11,4 +11,4 @@ unfolding heading_name
 returns-in-0 c = (sym (ap heading_name c.in-0.is), omega arith)
 
 pub returns-in_default : goal.returns-in_default
-returns-in_default c = (sym (no_name c.args.heading (omega (arith, c.if-heading-lt9.false))), omega arith)
+returns-in_default c = (sym (no_name c.args.heading (omega arith)), omega arith)
