@@ -1,6 +1,5 @@
 -- `direction` gives the name of each number; what is left for the last arm is 8.
 use mathlib.Core.Path.{◌≡◌, sym, ap}
-use Prim.Native.Nat.{ℕ, ◌+◌, ◌≤◌}
 use native.Mathlib.Omega.{arith}
 use Rattle.definitions.specs.Programs.{heading_name}
 use Rattle.desk_output.proofs.direction.Goals as goal

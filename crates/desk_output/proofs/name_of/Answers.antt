@@ -1,7 +1,6 @@
 -- `name_of` goes by the number: rest, a direction, and else no name.
 use mathlib.Core.Path.{sym, ap}
 use native.Mathlib.Omega.{arith}
-use borrow.Author.Rules.{rules}
 use Rattle.definitions.specs.Programs.{heading_name}
 use Rattle.desk_output.proofs.Names.{no_name}
 use Rattle.desk_output.proofs.name_of.Goals as goal
