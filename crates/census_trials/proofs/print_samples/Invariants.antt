@@ -6,7 +6,7 @@ use borrow.Author.Rules.{rules}
 use Rattle.census_trials.proofs.print_samples.Given as goal
 
 abbrev pub invariant-loop-i : goal.invariant-loop-i
-invariant-loop-i l = i ≤ length l.run
+invariant-loop-i l = l.i ≤ length l.run
 
 abbrev pub decreases-loop-i : goal.decreases-loop-i
-decreases-loop-i l = length l.run - i
+decreases-loop-i l = length l.run - l.i

@@ -11,7 +11,7 @@ use Rattle.converting.proofs.to_signed.Goals as goal
 pub returns-in_default : goal.returns-in_default
 unfolding convert_order_service
 returns-in_default c =
-    opening_refused _ c.admit-a.ensures c.in_default.is (answer_refuses c.admit-a.res) (λ d. refl)
+    opening_refused _ c.admit-a.ensures c.in_default.is (answer_refuses c.admit-a.result) (λ d. refl)
 
 -- the table is opened
 succeeded : (k : In-Done) → let a = k.args in

@@ -8,14 +8,14 @@ use Rattle.delivery.proofs.deliver.Goals as goal
 pub returns-in_default : goal.returns-in_default
 returns-in_default c =
     let a = c.args in
-    list_refused a.words.now a.res.now (length a.words.now) refl c.result_fits-a.res c.result_fits-a.ensures c.in_default.is
+    list_refused a.words.now a.res.now (length a.words.now) refl c.result_fits-a.result c.result_fits-a.ensures c.in_default.is
 
 pub copy-requires : goal.copy-requires
 copy-requires c =
     let a = c.args in
-    list_fits a.words.now a.res.now (length a.words.now) refl c.result_fits-a.res c.result_fits-a.ensures c.in-Done.is
+    list_fits a.words.now a.res.now (length a.words.now) refl c.result_fits-a.result c.result_fits-a.ensures c.in-Done.is
 
 pub returns : goal.returns
 returns c =
     let a = c.args in
-    list_written a.words.now a.res.now (length a.words.now) refl c.result_fits-a.res c.result_fits-a.ensures c.copy.new.to c.in-Done.is c.copy.ensures
+    list_written a.words.now a.res.now (length a.words.now) refl c.result_fits-a.result c.result_fits-a.ensures c.copy.new.to c.in-Done.is c.copy.ensures

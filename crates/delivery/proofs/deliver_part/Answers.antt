@@ -23,7 +23,7 @@ returns-in_default-a c h e size =
     let old = a.res.now in
     let d = piece_size h.text old a.start a.count c.text_length.result (c.text_length.ensures h size) c.range_fits-range.result c.range_fits-range.ensures c.in-Done.is in
     part_served h.text old a.start a.count c.text_length.result (c.text_length.ensures h size) c.range_fits-range.result c.range_fits-range.ensures c.in-Done.is
-    (list_refused (take a.count (drop a.start h.text)) old _ d c.result_fits-a.res c.result_fits-a.ensures c.in_default-a.is)
+    (list_refused (take a.count (drop a.start h.text)) old _ d c.result_fits-a.result c.result_fits-a.ensures c.in_default-a.is)
 
 pub write_part-requires : goal.write_part-requires
 write_part-requires c =
@@ -34,7 +34,7 @@ write_part-requires c =
       h,
       c.requires.1,
       range_fits h.text old a.start a.count c.text_length.result (c.text_length.ensures h c.requires.2) c.range_fits-range.result c.range_fits-range.ensures c.in-Done.is,
-      omega (arith, d, list_fits (take a.count (drop a.start h.text)) old _ d c.result_fits-a.res c.result_fits-a.ensures c.in-Done-a.is),
+      omega (arith, d, list_fits (take a.count (drop a.start h.text)) old _ d c.result_fits-a.result c.result_fits-a.ensures c.in-Done-a.is),
     )
 
 pub returns : goal.returns
@@ -45,5 +45,5 @@ returns c h e size =
     let fits = range_fits h.text old a.start a.count c.text_length.result (c.text_length.ensures h size) c.range_fits-range.result c.range_fits-range.ensures c.in-Done.is in
     let same = piece_same h.text old a.start a.count c.text_length.result (c.text_length.ensures h size) c.range_fits-range.result c.range_fits-range.ensures c.in-Done.is in
     part_served h.text old a.start a.count c.text_length.result (c.text_length.ensures h size) c.range_fits-range.result c.range_fits-range.ensures c.in-Done.is
-    (list_written (take a.count (drop a.start h.text)) old _ d c.result_fits-a.res c.result_fits-a.ensures c.write_part.new.res c.in-Done-a.is
+    (list_written (take a.count (drop a.start h.text)) old _ d c.result_fits-a.result c.result_fits-a.ensures c.write_part.new.res c.in-Done-a.is
     (c.write_part.ensures h e fits ∙ ap (λ (l : List ℕ). placed l old) same))

@@ -13,7 +13,7 @@ chair_loaded-chair-requires c = (c.requires.0, c.requires.2)
 
 pub returns : goal.returns
 returns c h e size =
-    let r = c.deliver_text-a.res in
+    let r = c.deliver_text-a.result in
     restated (λ i j q. ap read_outcome c.with_chair.ensures ∙ chair_refused r c.chair_loaded-chair.result i j q)
     (λ q. ap read_outcome c.with_chair.ensures ∙ chair_done r c.chair_loaded-chair.result (length h.text) q ∙ ap (λ (n : ℕ). done (length h.text) n) (c.chair_loaded-chair.ensures h size))
     (c.deliver_text-a.ensures h e size)

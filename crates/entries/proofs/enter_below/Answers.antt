@@ -24,11 +24,11 @@ shape_of-work-then-not-enter_halves c = c.enter_halves.auto.work ∙ c.loop-r.in
 
 pub returns-then-not-enter_halves : goal.returns-then-not-enter_halves
 returns-then-not-enter_halves c =
-    (λ e. contra e refl, λ e. c.enter_halves.ensures.1 (not-true c.enter_halves.result c.if-not-enter_halves.true-raw))
+    (λ e. contra e refl, λ e. c.enter_halves.ensures.1 (c.if-not-enter_halves.true))
 
 pub loop-r-preserved : goal.loop-r-preserved
 loop-r-preserved c =
-    (omega (arith, c.loop-r.invariant.0), c.enter_halves.auto.work ∙ c.loop-r.invariant.1, c.enter_halves.ensures.0 (not-false c.enter_halves.result c.if-not-enter_halves.false-raw))
+    (omega (arith, c.loop-r.invariant.0), c.enter_halves.auto.work ∙ c.loop-r.invariant.1, c.enter_halves.ensures.0 (c.if-not-enter_halves.false))
 
 pub returns : goal.returns
 returns c =

@@ -30,8 +30,7 @@ returns-in-Symbol c =
 -- the rule is a pair
 is_pair_lem : (c : In-Pair) → PairOf c.args.table.now c.args.r c.in-Pair.left c.in-Pair.right
 is_pair_lem c =
-    let (q, f) = c.rule-1.given in
-    pair_read c.args.table.now c.args.r c.requires.0.sized.lent.shaped c.requires.1 q.0 q.1.0 (sym c.rule_of-rule.ensures ∙ f)
+    pair_read c.args.table.now c.args.r c.requires.0.sized.lent.shaped c.requires.1 c.in-Pair.left c.in-Pair.right (sym c.rule_of-rule.ensures ∙ c.in-Pair.is)
 
 room : (c : In-Pair) → let w = c.args.work.now in
     (c.in-Pair.left < c.args.r) × (c.in-Pair.right < c.args.r) × (c.args.r < 2304) × (place_in w c.args.r + length_in w c.in-Pair.left ≤ 2048)

@@ -1,11 +1,8 @@
 -- `expand` walks from the root to the end or the bound. The loop's invariant: the walk stands where `Expanding` says.
-use mathlib.Core.Path.{◌≡◌, refl, ◌∙◌, subst}
-use Prim.Native.Nat.{◌+◌, ◌-◌, ◌≤◌}
+use mathlib.Core.Path.{refl, ◌∙◌, subst}
 use native.Mathlib.Omega.{arith}
-use lib.ListN.{length}
-use borrow.Author.Rules.{rules}
 use Rattle.expansion.specs.declared.Turn.TheVariants.{Next}
-use Rattle.expansion.specs.Expansion.{Expanding, Stepped}
+use Rattle.expansion.specs.Expansion.{Stepped}
 use Rattle.expansion.proofs.Walking.{walk_start, walk_long}
 use Rattle.expansion.proofs.expand.Goals.{In-Next}
 use Rattle.expansion.proofs.expand.Goals as goal

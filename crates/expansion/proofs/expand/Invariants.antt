@@ -1,12 +1,8 @@
 -- `expand` walks from the root to the end or the bound. The loop's invariant: the walk stands where `Expanding` says.
-use mathlib.Core.Path.{◌≡◌, refl, ◌∙◌, subst}
+use mathlib.Core.Path.{◌≡◌}
 use Prim.Native.Nat.{◌+◌, ◌-◌, ◌≤◌}
-use native.Mathlib.Omega.{arith}
 use lib.ListN.{length}
-use borrow.Author.Rules.{rules}
-use Rattle.expansion.specs.declared.Turn.TheVariants.{Next}
-use Rattle.expansion.specs.Expansion.{Expanding, Stepped}
-use Rattle.expansion.proofs.Walking.{walk_start, walk_long}
+use Rattle.expansion.specs.Expansion.{Expanding}
 use Rattle.expansion.proofs.expand.Given as goal
 
 abbrev pub invariant-loop-p : goal.invariant-loop-p

@@ -1,7 +1,6 @@
 -- `expand_rule` goes on with what the rule is read as: a symbol's rank is written, of a pair the right half is left pending.
 use mathlib.Core.Path.{◌≡◌, sym, ◌∙◌}
 use native.Mathlib.Omega.{arith}
-use borrow.Author.Rules.{rules}
 use Rattle.decoding.specs.declared.Rule.TheVariants.{Symbol, Pair}
 use Rattle.decoding.specs.Decoding.{rule_at}
 use Rattle.expansion.proofs.Walking.{symbol_here, pair_here, symbol_last, symbol_next, pair_stepped}

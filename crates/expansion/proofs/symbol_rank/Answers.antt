@@ -1,7 +1,6 @@
 -- `symbol_rank` is the mark's rank, or a sample's.
 use mathlib.Core.Path.{◌≡◌, refl}
 use Prim.Native.Nat.{ℕ}
-use borrow.Author.Rules.{rules}
 use Rattle.definitions.specs.declared.Order.{Order}
 use Rattle.definitions.specs.Table.{rank_of_number}
 use Rattle.expansion.proofs.symbol_rank.Goals as goal

@@ -17,8 +17,7 @@ rule_of-rule-requires c = omega (arith, c.requires.1, c.requires.0.placed.sized.
 
 is_symbol : (c : In-Symbol) → SymbolOf c.args.table.now c.args.r c.in-Symbol.number c.in-Symbol.field-1
 is_symbol c =
-    let (q, f) = c.rule-1.given in
-    symbol_read c.args.table.now c.args.r c.requires.0.placed.sized.lent.shaped c.requires.1 q.0 q.1.0 (sym c.rule_of-rule.ensures ∙ f)
+    symbol_read c.args.table.now c.args.r c.requires.0.placed.sized.lent.shaped c.requires.1 c.in-Symbol.number c.in-Symbol.field-1 (sym c.rule_of-rule.ensures ∙ c.in-Symbol.is)
 
 pub rank_of_number-requires : goal.rank_of_number-requires
 rank_of_number-requires c =
@@ -30,13 +29,11 @@ put-requires c =
 
 pub returns-in-Symbol : goal.returns-in-Symbol
 returns-in-Symbol c =
-    let q = c.rule-1.given.0 in
-    (λ t. symbol_written c.requires.0 c.requires.1 c.wide-start.result c.wide-start.ensures q.0 q.1.0 (is_symbol (goal.at.returns-in-Symbol c).In-Symbol) c.put.new.s c.rank_of_number.result c.rank_of_number.ensures c.put.ensures, λ t. contra refl t)
+    (λ t. symbol_written c.requires.0 c.requires.1 c.wide-start.result c.wide-start.ensures c.in-Symbol.number c.in-Symbol.field-1 (is_symbol (goal.at.returns-in-Symbol c).In-Symbol) c.put.new.s c.rank_of_number.result c.rank_of_number.ensures c.put.ensures, λ t. contra refl t)
 
 is_pair_lem : (c : In-Pair) → PairOf c.args.table.now c.args.r c.in-Pair.left c.in-Pair.right
 is_pair_lem c =
-    let (q, f) = c.rule-in-Pair-1.given in
-    pair_read c.args.table.now c.args.r c.requires.0.placed.sized.lent.shaped c.requires.1 q.0 q.1.0 (sym c.rule_of-rule.ensures ∙ f)
+    pair_read c.args.table.now c.args.r c.requires.0.placed.sized.lent.shaped c.requires.1 c.in-Pair.left c.in-Pair.right (sym c.rule_of-rule.ensures ∙ c.in-Pair.is)
 
 room : (c : In-Pair) → (c.in-Pair.left < 2304) × (c.in-Pair.right < 2304) × (c.wide-start.result + length_in c.args.work.now c.in-Pair.left ≤ 2048)
 room c =

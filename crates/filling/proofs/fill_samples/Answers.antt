@@ -24,7 +24,7 @@ shape_of-work-then-not-fill_rule c = c.fill_rule.auto.work ∙ c.loop-r.invarian
 
 pub returns-then-not-fill_rule : goal.returns-then-not-fill_rule
 returns-then-not-fill_rule c =
-    (λ e. contra e refl, λ e. c.fill_rule.ensures.1 (not-true c.fill_rule.result c.if-not-fill_rule.true-raw))
+    (λ e. contra e refl, λ e. c.fill_rule.ensures.1 (c.if-not-fill_rule.true))
 
 pub loop-r-preserved : goal.loop-r-preserved
 loop-r-preserved c = (
@@ -32,7 +32,7 @@ loop-r-preserved c = (
   omega (arith, c.loop-r-test.true),
   c.loop-r.invariant.2,
   c.fill_rule.auto.work ∙ c.loop-r.invariant.3,
-  c.fill_rule.ensures.0 (not-false c.fill_rule.result c.if-not-fill_rule.false-raw),
+  c.fill_rule.ensures.0 (c.if-not-fill_rule.false),
 )
 
 pub returns : goal.returns

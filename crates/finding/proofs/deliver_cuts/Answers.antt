@@ -28,7 +28,7 @@ list-n-requires c = (simp length-take (omega (arith, few (goal.at.list-n-require
 pub returns-in_default : goal.returns-in_default
 returns-in_default c =
     let a = c.args in
-    list_refused (pattern_cuts sample_order a.pattern.now) a.res.now c.list-n.result c.list-n.ensures.0 c.result_fits-a.res c.result_fits-a.ensures c.in_default.is
+    list_refused (pattern_cuts sample_order a.pattern.now) a.res.now c.list-n.result c.list-n.ensures.0 c.result_fits-a.result c.result_fits-a.ensures c.in_default.is
 
 -- the list, with what stands behind it
 abbrev zeros : List ℕ
@@ -61,12 +61,12 @@ pub copy-requires : goal.copy-requires
 copy-requires c =
     let a = c.args in
     subst (λ (x : List ℕ). length x ≤ length a.res.now) (sym (copied (goal.at.copy-requires c).After-list-n))
-    (list_fits (pattern_cuts sample_order a.pattern.now) a.res.now c.list-n.result c.list-n.ensures.0 c.result_fits-a.res c.result_fits-a.ensures c.in-Done.is)
+    (list_fits (pattern_cuts sample_order a.pattern.now) a.res.now c.list-n.result c.list-n.ensures.0 c.result_fits-a.result c.result_fits-a.ensures c.in-Done.is)
 
 pub returns : goal.returns
 returns c =
     let a = c.args in
-    list_written (pattern_cuts sample_order a.pattern.now) a.res.now c.list-n.result c.list-n.ensures.0 c.result_fits-a.res c.result_fits-a.ensures c.copy.new.to c.in-Done.is
+    list_written (pattern_cuts sample_order a.pattern.now) a.res.now c.list-n.result c.list-n.ensures.0 c.result_fits-a.result c.result_fits-a.ensures c.copy.new.to c.in-Done.is
     (c.copy.ensures ∙ ap (λ (x : List ℕ). placed x a.res.now) (copied (goal.at.returns c).After-list-n))
 
 pub overflow_add-k : goal.overflow_add-k

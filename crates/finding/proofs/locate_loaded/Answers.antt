@@ -31,7 +31,7 @@ returns c h e size =
     let a = c.args in
     let p = a.pattern.now in
     let found = c.count_loaded-n.ensures h e size in
-    let r = c.deliver_found-a.res in
+    let r = c.deliver_found-a.result in
     let n = length (finds a.content p h.text) in
     let same = finds_from a.content p h e c.requires.filled c.start_of.ensures in
     restated (λ i j y. c.with_tests.ensures ∙ tests_refused r c.count_loaded-n.result.tests i j y)

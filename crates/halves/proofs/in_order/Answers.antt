@@ -24,13 +24,13 @@ is_smaller-requires c =
 
 pub returns-then-not-is_smaller : goal.returns-then-not-is_smaller
 returns-then-not-is_smaller c =
-    λ k. not_less k (sym (halves_test k c.is_smaller.result c.wide-n.result c.wide-n.ensures c.is_smaller.ensures) ∙ not-true c.is_smaller.result c.if-not-is_smaller.taken)
+    λ k. not_less k (sym (halves_test k c.is_smaller.result c.wide-n.result c.wide-n.ensures c.is_smaller.ensures) ∙ c.if-not-is_smaller.true)
 
 -- the left half is smaller than the right
 is_less : (c : After-rule_of-rule) → (k : Written c.args.table.now c.args.work.now c.args.left c.args.right c.args.start c.args.behind)
     → lexlt (rule_string k.order c.args.table.now c.args.left) (rule_string k.order c.args.table.now c.args.right) ≡ true
 is_less c =
-    λ k. sym (halves_test k c.is_smaller.result c.wide-n.result c.wide-n.ensures c.is_smaller.ensures) ∙ not-false c.is_smaller.result c.if-not-is_smaller.left
+    λ k. sym (halves_test k c.is_smaller.result c.wide-n.result c.wide-n.ensures c.is_smaller.ensures) ∙ c.if-not-is_smaller.false
 
 -- the left half is a rule
 left_low : {t w : List ℕ} {left right start behind : ℕ} → (k : Written t w left right start behind) → left < rule_count t
@@ -42,12 +42,11 @@ rule_of-rule-requires c =
 
 is_pair_lem : (c : In-Pair) → PairOf c.args.table.now c.args.left c.in-Pair.first c.in-Pair.second
 is_pair_lem c =
-    let (q, f) = c.rule-1.given in
-    pair_read c.args.table.now c.args.left c.requires.placed.sized.lent.shaped (left_low c.requires) q.0 q.1.0 (sym c.rule_of-rule.ensures ∙ f)
+    pair_read c.args.table.now c.args.left c.requires.placed.sized.lent.shaped (left_low c.requires) c.in-Pair.first c.in-Pair.second (sym c.rule_of-rule.ensures ∙ c.in-Pair.is)
 
 pub returns-then-second-right : goal.returns-then-second-right
 returns-then-second-right c =
-    λ k. left_same k (is_less (goal.at.returns-then-second-right c).After-rule_of-rule k) c.in-Pair.first c.in-Pair.second (is_pair_lem (goal.at.returns-then-second-right c).In-Pair) c.if-second-right.taken
+    λ k. left_same k (is_less (goal.at.returns-then-second-right c).After-rule_of-rule k) c.in-Pair.first c.in-Pair.second (is_pair_lem (goal.at.returns-then-second-right c).In-Pair) c.if-second-right.true
 
 middle : (c : In-Pair) → (c.in-Pair.first < 2304) × (c.args.start + length_in c.args.work.now c.in-Pair.first < c.args.behind)
 middle c =

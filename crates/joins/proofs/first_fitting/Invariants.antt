@@ -1,9 +1,7 @@
 -- `first_fitting` goes down from the end of the list. The loop's invariant: the tails from i on fit. The first cut's does not, so the loop ends behind it.
-use mathlib.Core.Path.{◌≡◌, refl}
-use Prim.Native.Nat.{◌-◌, ◌<◌}
-use native.Mathlib.Omega.{arith}
-use Rattle.joins.specs.Joining.{longest_tail}
-use Rattle.joins.proofs.Joining.{FitBehind, fits_all, short_right, fit_start, fit_more, fit_end}
+use mathlib.Core.Path.{◌≡◌}
+use Prim.Native.Nat.{◌-◌}
+use Rattle.joins.proofs.Joining.{FitBehind}
 use Rattle.joins.proofs.first_fitting.Given as goal
 
 abbrev pub invariant-loop-i : goal.invariant-loop-i

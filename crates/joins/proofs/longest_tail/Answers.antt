@@ -1,7 +1,6 @@
 -- `longest_tail` reads the first cut, if there is one.
 use mathlib.Core.Path.{sym}
 use native.Mathlib.Omega.{arith}
-use borrow.Author.Rules.{rules}
 use Rattle.joins.proofs.Joining.{longest_first, longest_none, first_range}
 use Rattle.joins.proofs.longest_tail.Goals as goal
 

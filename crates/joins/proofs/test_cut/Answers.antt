@@ -1,9 +1,8 @@
 -- `test_cut` counts one test whatever comes of it.
 use mathlib.Core.Path.{◌≡◌, refl, sym, ◌∙◌, ap}
+use mathlib.Core.Bool.{true, false}
 use Prim.Native.Nat.{ℕ, ◌+◌, ◌-◌}
 use native.Mathlib.Omega.{arith}
-use borrow.Author.Rules.{rules}
-use borrow.Author.Tests.{not-true, not-false}
 use Rattle.definitions.specs.Words.{same}
 use Rattle.lists.specs.Bools.{cond_true, cond_false}
 use Rattle.lists.specs.Parts.{part}
@@ -26,7 +25,7 @@ straddles-requires c =
 pub returns-then-not-straddles : goal.returns-then-not-straddles
 returns-then-not-straddles c =
     let a = c.args in
-    let missed = not-true c.straddles.result c.if-not-straddles.true-raw in (
+    let missed : c.straddles.result ≡ false = c.if-not-straddles.true in (
       sym (cond_false (same (part (a.join - a.c) a.m a.work.now) (part PATTERN a.m a.work.now)) (PACK + a.c) a.before.found (sym (compared (goal.at.returns-then-not-straddles c).After-straddles) ∙ missed)),
       refl,
     )
@@ -34,7 +33,7 @@ returns-then-not-straddles c =
 pub returns : goal.returns
 returns c =
     let a = c.args in
-    let hit = not-false c.straddles.result c.if-not-straddles.false-raw in (
+    let hit : c.straddles.result ≡ true = c.if-not-straddles.false in (
       sym (cond_true (same (part (a.join - a.c) a.m a.work.now) (part PATTERN a.m a.work.now)) (PACK + a.c) a.before.found (sym (compared (goal.at.returns c).After-straddles) ∙ hit)),
       refl,
     )

@@ -1,13 +1,11 @@
 -- `test_join` tests the cuts upwards, from the first whose tail fits. The loop's invariant: what is found is found at the cuts passed, the tests are those of them that
 -- fit, and the tails of the others fit. NO_CUT ends the loop, if no cut does.
-use mathlib.Core.Path.{◌≡◌, refl}
-use Prim.Native.Nat.{ℕ, ◌+◌, ◌-◌, ◌≤◌, ◌<◌}
+use mathlib.Core.Path.{refl}
+use Prim.Native.Nat.{◌+◌, ◌-◌, ◌≤◌, ◌<◌}
 use native.Mathlib.Omega.{arith}
 use lib.ListN.{get_or}
-use Rattle.lists.specs.Parts.{part}
-use Rattle.lyndon.specs.Tests.{fitting}
 use Rattle.layout.specs.Layout.{CUTS}
-use Rattle.joins.proofs.Joining.{Sought, nowhere, missed_first, sought_more, sought_all, cut_range, cut_inside, fitting_start, fitting_more, fitting_all}
+use Rattle.joins.proofs.Joining.{nowhere, missed_first, sought_more, sought_all, cut_range, cut_inside, fitting_start, fitting_more, fitting_all}
 use Rattle.joins.proofs.test_join.Goals.{In-loop-tested}
 use Rattle.joins.proofs.test_join.Goals as goal
 

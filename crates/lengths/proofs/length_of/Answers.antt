@@ -19,8 +19,7 @@ returns-in-Symbol c =
 
 is_pair_lem : (c : In-Pair) → let a = c.args in PairOf a.table.now a.r c.in-Pair.left c.in-Pair.right
 is_pair_lem c =
-    let (q, e) = c.rule-1.given in
-    pair_read c.args.table.now c.args.r c.requires.0.lent.shaped c.requires.1 q.0 q.1.0 (sym c.rule_of-rule.ensures ∙ e)
+    pair_read c.args.table.now c.args.r c.requires.0.lent.shaped c.requires.1 c.in-Pair.left c.in-Pair.right (sym c.rule_of-rule.ensures ∙ c.in-Pair.is)
 
 room : (c : In-Pair) → let a = c.args in
     (c.in-Pair.left < 2304) × (c.in-Pair.right < 2304) × (length_in a.work.now c.in-Pair.left + length_in a.work.now c.in-Pair.right ≤ 4096)

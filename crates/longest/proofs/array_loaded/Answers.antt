@@ -22,7 +22,7 @@ copied n v a e =
 pub returns-in_default : goal.returns-in_default
 returns-in_default c h e =
     let n = c.text_length-n.result in
-    list_refused (lyndon_array (map (rank_of h.order) h.text)) c.args.res.now n (size h n (c.text_length-n.ensures h e)) c.result_fits-a.res c.result_fits-a.ensures c.in_default.is
+    list_refused (lyndon_array (map (rank_of h.order) h.text)) c.args.res.now n (size h n (c.text_length-n.ensures h e)) c.result_fits-a.result c.result_fits-a.ensures c.in_default.is
 
 pub place_array-requires : goal.place_array-requires
 place_array-requires c =
@@ -42,7 +42,7 @@ copy-requires c =
     let n = c.text_length-n.result in
     let q = c.text_length-n.ensures h c.requires.1 in
     let a = lyndon_array (map (rank_of h.order) h.text) in
-    simp (length-take, length-drop) (omega (arith, size h n q, list_fits a c.args.res.now n (size h n q) c.result_fits-a.res c.result_fits-a.ensures c.in-Done.is))
+    simp (length-take, length-drop) (omega (arith, size h n q, list_fits a c.args.res.now n (size h n q) c.result_fits-a.result c.result_fits-a.ensures c.in-Done.is))
 
 pub returns : goal.returns
 returns c h e =
@@ -50,5 +50,5 @@ returns c h e =
     let q = c.text_length-n.ensures h e in
     let a = lyndon_array (map (rank_of h.order) h.text) in
     let old = c.args.res.now in
-    list_written a old n (size h n q) c.result_fits-a.res c.result_fits-a.ensures c.copy.new.to c.in-Done.is
+    list_written a old n (size h n q) c.result_fits-a.result c.result_fits-a.ensures c.copy.new.to c.in-Done.is
     (c.copy.ensures ∙ ap (λ (l : List ℕ). placed l old) (copied n c.place_array.new.work a (c.place_array.ensures h q)))

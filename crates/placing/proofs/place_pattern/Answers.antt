@@ -4,7 +4,6 @@ use mathlib.Core.List.{◌++◌}
 use Prim.Native.Nat.{◌+◌, ◌-◌, ◌≤◌, ◌<◌}
 use native.Mathlib.Omega.{arith}
 use lib.ListN.{length, take, drop, length-take, length-drop}
-use borrow.Author.Rules.{rules}
 use Rattle.cuts.proofs.Lists.{most_cuts, eleven}
 use Rattle.layout.specs.Layout.{PATTERN, CUTS}
 use Rattle.rule_finds.specs.Searching.{Counting}
@@ -17,6 +16,10 @@ few : (c : After-floor_log2-k) → c.floor_log2-k.result + 1 ≤ 11
 few c =
     eleven (length c.args.pattern.now) c.floor_log2-k.result c.requires.1 c.floor_log2-k.ensures
 
+few_then : (l : After-list-n) → l.floor_log2-k.result + 1 ≤ 11
+few_then l =
+    eleven (length l.args.pattern.now) l.floor_log2-k.result l.requires.1 l.floor_log2-k.ensures
+
 pub list-n-requires : goal.list-n-requires
 list-n-requires c =
     let most = most_cuts c.args.order c.args.pattern.now c.floor_log2-k.result c.floor_log2-k.ensures in
@@ -25,7 +28,7 @@ list-n-requires c =
 -- NO_CUT stands behind the cuts, before the table
 behind : (l : After-list-n) → CUTS + l.list-n.result < CUTS + 12
 behind l =
-    omega (arith, few (up l).After-floor_log2-k, most_cuts l.args.order l.args.pattern.now l.floor_log2-k.result l.floor_log2-k.ensures, l.list-n.ensures.0)
+    omega (arith, few_then l, most_cuts l.args.order l.args.pattern.now l.floor_log2-k.result l.floor_log2-k.ensures, l.list-n.ensures.0)
 
 -- the slice is as long as it was
 size : (l : After-list-n) → let a = l.args in
@@ -37,7 +40,7 @@ size l =
     let a = l.args in
     let m = PATTERN + length a.pattern.now - PATTERN in
     let k = CUTS + l.floor_log2-k.result + 1 - CUTS in
-    cuts_length a.work.now l.write.new.ranks _ l.list-n.new.cuts m k l.requires.2 (omega (arith, l.requires.1)) l.write.auto.ranks refl (omega (arith, few (up l).After-floor_log2-k)) l.list-n.auto.cuts
+    cuts_length a.work.now l.write.new.ranks _ l.list-n.new.cuts m k l.requires.2 (omega (arith, l.requires.1)) l.write.auto.ranks refl (omega (arith, few_then l)) l.list-n.auto.cuts
 
 pub put-requires : goal.put-requires
 put-requires c =

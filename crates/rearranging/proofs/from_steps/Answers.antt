@@ -7,7 +7,7 @@ use Rattle.rearranging.proofs.Fitting.{Judged, both_refused, both_fit, both_writ
 use Rattle.rearranging.proofs.from_steps.Goals.{After-both_fit-a}
 use Rattle.rearranging.proofs.from_steps.Goals as goal
 
-judged : (f : After-both_fit-a) → let a = f.args in Judged a.text.now (from_steps a.text.now) a.res.now f.both_fit-a.res
+judged : (f : After-both_fit-a) → let a = f.args in Judged a.text.now (from_steps a.text.now) a.res.now f.both_fit-a.result
 judged f = record { size = from_length f.args.text.now; answer = f.both_fit-a.ensures }
 
 pub returns-in_default : goal.returns-in_default

@@ -1,6 +1,5 @@
 -- `found` adds the words of both halves. The cuts in them do not reach PACK together, so dividing drops them, and the numbers are added.
 use native.Mathlib.Omega.{arith}
-use borrow.Author.Rules.{rules}
 use Rattle.rule_finds.proofs.found.Goals as goal
 
 pub overflow_add-result-3 : goal.overflow_add-result-3

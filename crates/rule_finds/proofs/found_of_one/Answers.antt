@@ -1,7 +1,6 @@
 -- `found_of_one` compares a symbol rule's rank, or adds what both halves of a pair have: one sample has no cut.
 use mathlib.Core.Path.{◌≡◌, refl, sym, ◌∙◌}
 use native.Mathlib.Omega.{arith}
-use borrow.Author.Rules.{rules}
 use Rattle.layout.specs.Layout.{place_in, length_in}
 use Rattle.decoding.specs.declared.Rule.TheVariants.{Pair}
 use Rattle.decoding.specs.Decoding.{rule_in}

@@ -4,7 +4,6 @@ use mathlib.Core.List.{List}
 use Prim.Native.Nat.{ℕ, ◌+◌, ◌-◌, ◌≤◌, ◌<◌}
 use native.Mathlib.Omega.{arith}
 use lib.ListN.{length, drop}
-use borrow.Author.Rules.{rules}
 use borrow.Author.Tests.{ltb-true}
 use Rattle.definitions.specs.Table.{table_of, rule_count}
 use Rattle.definitions.specs.Occurrences.{occurrences, tests}
@@ -87,10 +86,11 @@ both c text chair h e =
     let a = c.args in
     let n = c.place_pattern-n.result in
     let w = c.count_rules-tests.new.work in
-    let (counted, _) = all_counted (up c).After-count_rules-tests text chair h e in
+    let (counted, _) = c.count_rules-tests.ensures a.order a.pattern.now text chair (c.place_pattern-n.ensures text chair h) e in
+    let (some, most) = rule_range a.order text chair h.kept.stored in
     let all = counted_all a.order a.pattern.now text chair _ n a.rules w e counted in
     c.passed_over-before.ensures a.order a.pattern.now text chair n (c.place_pattern-n.ensures text chair h) e
-    ∙ sym (c.number_of-all.ensures ∙ counted_text a.order a.pattern.now text chair a.rules w (range (up c).Start).0 e all)
+    ∙ sym (c.number_of-all.ensures ∙ counted_text a.order a.pattern.now text chair a.rules w (omega (arith, e, some)) e all)
 
 pub overflow_sub-result : goal.overflow_sub-result
 overflow_sub-result c =

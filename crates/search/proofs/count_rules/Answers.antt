@@ -1,11 +1,9 @@
 -- `count_rules` counts rule after rule. The loop's invariant: whatever text is loaded, the rules before r are counted, by so many tests; the cuts stay as they are.
-use mathlib.Core.Path.{◌≡◌, refl, sym, ◌∙◌}
-use Prim.Native.Nat.{ℕ, ◌-◌, ◌≤◌, ◌<◌}
+use mathlib.Core.Path.{refl, sym, ◌∙◌}
+use Prim.Native.Nat.{ℕ, ◌<◌}
 use native.Mathlib.Omega.{arith}
-use lib.ListN.{length}
 use Rattle.lyndon.specs.Stored.{rule_range}
-use Rattle.joins.specs.Joining.{longest_tail}
-use Rattle.rule_finds.proofs.Counting.{Counted, counted_none, counted_turn, counted_end, few_tests, longest_kept}
+use Rattle.rule_finds.proofs.Counting.{counted_none, counted_turn, counted_end, few_tests, longest_kept}
 use Rattle.search.proofs.count_rules.Goals.{Start}
 use Rattle.search.proofs.count_rules.Goals as goal
 

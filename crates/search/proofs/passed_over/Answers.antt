@@ -6,7 +6,6 @@ use Prim.Native.Nat.{ℕ, ◌+◌, ◌-◌, ◌≤◌, ◌<◌}
 use native.Mathlib.Omega.{arith}
 use native.Mathlib.Nat.{zero-add}
 use lib.ListN.{length, drop}
-use borrow.Author.Rules.{rules}
 use Rattle.definitions.specs.declared.Order.{Order}
 use Rattle.definitions.specs.Words.{same}
 use Rattle.definitions.specs.Table.{table_of, rule_count}
@@ -54,16 +53,17 @@ decided : (k : Else-length_of-m) → let a = k.args in
     → length (start b) + length (occurrences p (drop a.from text)) ≡ length (occurrences p text)
 decided k b f o p text chair n h e =
     let a = k.args in
-    rw (second (up k).Start k.if-from-eq0.false) (first_passed o p text chair a.m n a.rules a.work.now h e (omega (arith, k.length_of.ensures, k.if-length_of-m.false)) b f)
+    let one : a.from ≡ 1 = omega (arith, k.requires.2, k.if-from-eq0.false) in
+    rw one (first_passed o p text chair a.m n a.rules a.work.now h e (omega (arith, k.length_of.ensures, k.if-length_of-m.false)) b f)
 
 pub returns-then-work : goal.returns-then-work
 returns-then-work c o p text chair n h e =
     let a = c.args in
     decided (goal.at.returns-then-work c).Else-length_of-m false (unlike o p text chair a.m n a.rules a.work.now h e c.if-work.true) o p text chair n h e
 
-compared : (c : After-equal_many) → let a = longer.args in same (part 1 a.m a.work.now) (part PATTERN a.m a.work.now) ≡ c.equal_many.result
+compared : (c : After-equal_many) → let a = c.args in same (part 1 a.m a.work.now) (part PATTERN a.m a.work.now) ≡ c.equal_many.result
 compared c =
-    let a = longer.args in
+    let a = c.args in
     sym (c.equal_many.ensures
     ∙ ap₂ {C = Bool} same (part_taken 1 (a.m + 1 - 1) a.m a.work.now (omega arith)) (part_taken PATTERN (PATTERN + a.m - PATTERN) a.m a.work.now (omega arith)))
 

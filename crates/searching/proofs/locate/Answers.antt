@@ -36,7 +36,7 @@ unfolding locate_service
 returns-in_default-a c =
     let a = c.args in
     grouped (search_checks a.content a.pattern.now) _ _
-    (passed (accepted (goal.at.returns-in_default-a c).After-admit-a) (opening_refused _ c.admit-a.ensures c.in_default-a.is (search_refuses c.admit-a.res c.with_tests-in_default-a.res c.with_tests-in_default-a.ensures) (λ d. refl)))
+    (passed (accepted (goal.at.returns-in_default-a c).After-admit-a) (opening_refused _ c.admit-a.ensures c.in_default-a.is (search_refuses c.admit-a.result c.with_tests-in_default-a.result c.with_tests-in_default-a.ensures) (λ d. refl)))
 
 -- and the table opened
 succeeded : (k : In-Done-a-2) → let a = k.args in

@@ -3,7 +3,6 @@ use mathlib.Core.Path.{◌≡◌}
 use Prim.Native.Nat.{suc, ◌+◌, ◌-◌, ◌≤◌, ◌<◌}
 use native.Mathlib.Omega.{arith}
 use lib.ListN.{length, get_or}
-use borrow.Author.Rules.{rules}
 use Rattle.layout.specs.Layout.{LENGTHS}
 use Rattle.spelling.proofs.Texts.{loaded_length}
 use Rattle.spelling.proofs.text_length.Goals.{Start}

@@ -1,10 +1,8 @@
 -- `write_samples` places the bytes of ranks at the front of a slice. The invariant: those of the ranks passed stand there.
-use mathlib.Core.Path.{◌≡◌, sym, ◌∙◌, refl, ap}
-use mathlib.Core.List.{map}
-use Prim.Native.Nat.{ℕ, ◌≤◌, ◌-◌}
+use mathlib.Core.Path.{sym, ◌∙◌, refl, ap}
+use Prim.Native.Nat.{ℕ}
 use native.Mathlib.Omega.{arith}
-use lib.ListN.{length, take, set, length-set}
-use Rattle.definitions.specs.Words.{placed}
+use lib.ListN.{set, length-set}
 use Rattle.definitions.specs.Table.{byte_of}
 use Rattle.definitions.specs.Services.{sample_order}
 use Rattle.lists.specs.Lists.{placed_none, mapped_more, mapped_all}

@@ -1,13 +1,11 @@
 -- `write_samples` places the bytes of ranks at the front of a slice. The invariant: those of the ranks passed stand there.
-use mathlib.Core.Path.{◌≡◌, sym, ◌∙◌, refl, ap}
+use mathlib.Core.Path.{◌≡◌}
 use mathlib.Core.List.{map}
-use Prim.Native.Nat.{ℕ, ◌≤◌, ◌-◌}
-use native.Mathlib.Omega.{arith}
-use lib.ListN.{length, take, set, length-set}
+use Prim.Native.Nat.{◌≤◌, ◌-◌}
+use lib.ListN.{length, take}
 use Rattle.definitions.specs.Words.{placed}
 use Rattle.definitions.specs.Table.{byte_of}
 use Rattle.definitions.specs.Services.{sample_order}
-use Rattle.lists.specs.Lists.{placed_none, mapped_more, mapped_all}
 use Rattle.spelling.proofs.write_samples.Given as goal
 
 abbrev pub invariant-loop-i : goal.invariant-loop-i

@@ -18,12 +18,12 @@ is_marked-requires c =
 pub returns-then-not-is_marked : goal.returns-then-not-is_marked
 returns-then-not-is_marked c =
     let a = c.args in
-    λ k. refused k.order a.table.now a.work.now (unmarked k c.wide-n.result c.wide-n.ensures (c.is_marked.ensures.1 (not-true c.is_marked.result c.if-not-is_marked.true-raw)))
+    λ k. refused k.order a.table.now a.work.now (unmarked k c.wide-n.result c.wide-n.ensures (c.is_marked.ensures.1 (c.if-not-is_marked.true)))
 
 pub returns : goal.returns
 returns c =
     let a = c.args in
-    λ k. let sound = marked_sound k c.wide-n.result c.wide-n.ensures (front_filled k c.wide-n.result c.wide-n.ensures) (c.is_marked.ensures.0 (not-false c.is_marked.result c.if-not-is_marked.false-raw)) in
+    λ k. let sound = marked_sound k c.wide-n.result c.wide-n.ensures (front_filled k c.wide-n.result c.wide-n.ensures) (c.is_marked.ensures.0 (c.if-not-is_marked.false)) in
     accepted k.order a.table.now _ sound (kept_loaded k sound c.copy.new.to c.copy.ensures)
 
 index : (c : Start) → (rule_count c.args.table.now ≤ 2304) × (0 < rule_count c.args.table.now)

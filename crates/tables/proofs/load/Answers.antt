@@ -10,7 +10,7 @@ is_distinct-requires c = record { shaped = c.requires.0; few = c.requires.1; lon
 pub returns-then-not-is_distinct : goal.returns-then-not-is_distinct
 returns-then-not-is_distinct c =
     let a = c.args in
-    refused a.order a.table.now c.is_distinct.new.work (c.is_distinct.ensures.1 (not-true c.is_distinct.result c.if-not-is_distinct.true-raw) a.order)
+    refused a.order a.table.now c.is_distinct.new.work (c.is_distinct.ensures.1 (c.if-not-is_distinct.true) a.order)
 
 pub judge-requires : goal.judge-requires
-judge-requires c = c.is_distinct.ensures.0 (not-false c.is_distinct.result c.if-not-is_distinct.false-raw)
+judge-requires c = c.is_distinct.ensures.0 (c.if-not-is_distinct.false)
