@@ -24,11 +24,11 @@ stopped a b d (Ok k) x n more part input e f g room read h =
 stopped a b d (Err k) x n more part input e f g room read h = rw e tt
 
 pub returns-then-more-eq0-clause-fits : goal.returns-then-more-eq0-clause-fits
-returns-then-more-eq0-clause-fits g c = fits c.read-got.result _ c.loop-n.n (length c.args.input.now) c.ended.ensures (omega arith)
+returns-then-more-eq0-clause-fits g c = fits _ _ _ _ c.ended.ensures (omega arith)
 
 pub returns-then-more-eq0-clause-bytes : goal.returns-then-more-eq0-clause-bytes
 returns-then-more-eq0-clause-bytes g c =
-    stopped _ _ _ c.read-got.result _ c.loop-n.n c.unwrap_or-more.result c.read-got.new.buf _ c.ended.ensures c.unwrap_or-more.ensures c.if-more-eq0.true
+    stopped _ _ _ _ _ _ c.unwrap_or-more.result c.read-got.new.buf _ c.ended.ensures c.unwrap_or-more.ensures c.if-more-eq0.true
     (omega (arith, c.read-got.auto.buf)) c.read-got.ensures.bytes
     (behind _ _ _ c.read-got.result (length c.loop-n.input - c.loop-n.n) c.loop-n.n c.unwrap_or-more.result c.loop-n.input c.read-got.new.buf
     c.loop-n.invariant.fits c.read-got.ensures.bound c.read-got.ensures.bytes c.unwrap_or-more.ensures c.loop-n.invariant.bytes)
