@@ -1,7 +1,7 @@
 -- Reading back: the table of a drive and a chair number spells that drive and gives that number (`table_text`, `table_chair`),
 -- has at most 4,608 words (`table_size`), none of them bad (`table_no_bad`), and a table is accepted exactly when it is the table
 -- of some drive and chair number (`accepted`, and `passes` for the checks of 5, 6 and 7).
-use Rattle.std.specs.Prelude.{◌≡◌, Bool, true, false, not, ◌&&◌, ◌↔◌, ℕ, ◌+◌, ◌*◌, ◌%◌, ◌≤◌, ◌<◌, length, drop, get_or, leb}
+use Rattle.std.specs.Prelude.{◌≡◌, true, false, not, ◌&&◌, ◌↔◌, ℕ, ◌+◌, ◌*◌, ◌%◌, ◌≤◌, ◌<◌, length, drop, get_or, leb}
 use Rattle.std.proofs.Math.Path.{refl, ap}
 use Rattle.std.proofs.Common.{sym, ◌∙◌, subst, arith, leb-true, le-leb, le-ltb, ne_eqb}
 use mathlib.Core.List.Memᴰ.{append_left as in_left}
