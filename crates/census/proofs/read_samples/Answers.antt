@@ -2,7 +2,6 @@
 use mathlib.Core.Path.{◌≡◌}
 use native.Mathlib.Omega.{arith}
 use lib.ListN.{length}
-use borrow.Author.Rules.{rules}
 use Rattle.definitions.specs.Table.{text_of}
 use Rattle.definitions.specs.Services.{sample_order}
 use Rattle.census.specs.Samples.{Begun, tried_refused, tried_done, number_below}

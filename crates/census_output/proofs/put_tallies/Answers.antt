@@ -4,11 +4,8 @@ use mathlib.Core.List.{List}
 use Prim.Native.Nat.{ℕ, ◌+◌, ◌-◌, ◌*◌, ◌≤◌, ◌<◌}
 use native.Mathlib.Omega.{arith}
 use lib.ListN.{length, take, drop, length-take, length-drop}
-use borrow.Author.Rules.{rules}
 use Rattle.definitions.specs.Programs.{named, spaced}
-use Rattle.lists.specs.Lists.{Fronted}
 use Rattle.lyndon.specs.Ranks.{slice_bytes}
-use Rattle.lines.specs.Turns.{turns}
 use Rattle.lines.proofs.Turns.{turns_none, turns_spare, turns_stored, turns_all}
 use Rattle.census_output.specs.Reports.{tally, tallies}
 use Rattle.census_output.proofs.Tallying.{tally_within, tally_run, tally_most}

@@ -2,7 +2,6 @@
 use Prim.Native.Nat.{◌+◌, ◌*◌, ◌≤◌}
 use native.Mathlib.Omega.{arith}
 use lib.ListN.{length, length-take, length-drop}
-use borrow.Author.Rules.{rules}
 use Rattle.definitions.specs.Programs.{spaced}
 use Rattle.decimals.proofs.Digits.{line_most}
 use Rattle.lines.proofs.Lines.{spaced_most, named_stored}
