@@ -1,6 +1,5 @@
 -- `print_runs` goes over the runs. The loop's invariant: those passed take at most eight bytes each.
 use Prim.Native.Nat.{◌-◌, ◌*◌, ◌≤◌}
-use native.Mathlib.Omega.{arith}
 use lib.ListN.{length}
 use Rattle.census_trials.proofs.print_runs.Given as goal
 
