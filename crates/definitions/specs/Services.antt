@@ -141,8 +141,8 @@ table_length n = check (eqb n 0 || (eqb (n % 2) 1 || ltb 4608 n)) 5 0 false
 abbrev pub has_bad_word : List ℕ → Check
 has_bad_word t = let i = least (bad_word t) (length t) in check (ltb i (length t)) 6 i false
 
-abbrev pub not_aTable : Order → List ℕ → Check
-not_aTable o t = check (not (is_table o t)) 7 0 true
+abbrev pub not_a_table : Order → List ℕ → Check
+not_a_table o t = check (not (is_table o t)) 7 0 true
 
 -- the same of a second-edition table
 abbrev pub second_length : ℕ → Check
@@ -151,8 +151,8 @@ second_length n = check (eqb n 0 || (not (eqb (n % 3) 0) || ltb 6912 n)) 5 0 fal
 abbrev pub has_bad_in_second : List ℕ → Check
 has_bad_in_second s = let i = least (bad_in_second s) (length s) in check (ltb i (length s)) 6 i false
 
-abbrev pub not_aSecond : Order → List ℕ → Check
-not_aSecond o s = check (not (is_second o s)) 7 0 true
+abbrev pub not_a_second : Order → List ℕ → Check
+not_a_second o s = check (not (is_second o s)) 7 0 true
 
 -- in a drive of n samples; a position is a range of one sample
 abbrev pub range_past_end : ℕ → ℕ → ℕ → Check
@@ -177,7 +177,7 @@ former_order = Unsigned
 
 -- what a table that is handed over must pass, with n words of work
 unfoldable pub table_checks : Order → List ℕ → ℕ → List Check
-table_checks o t n = work_too_short n ∷ table_length (length t) ∷ has_bad_word t ∷ not_aTable o t ∷ []
+table_checks o t n = work_too_short n ∷ table_length (length t) ∷ has_bad_word t ∷ not_a_table o t ∷ []
 
 unfoldable pub pattern_checks : List ℕ → List Check
 pattern_checks p = pattern_empty p ∷ pattern_too_long p ∷ []

@@ -21,7 +21,7 @@ use Rattle.definitions.specs.declared.Content.TheVariants.{Samples, Steps}
 use Rattle.definitions.specs.declared.Answer.{Answer}
 use Rattle.definitions.specs.Words.{placed, lexlt}
 use Rattle.definitions.specs.Table.{rank_of, byte_of, number_of_rank, rank_of_number, marked, table_of, rule_string, spelled, text_of, chair_of, is_table, rule_count}
-use Rattle.definitions.specs.Services.{sample_order, former_order, Check, Service, Outcome, done, refused, outcome_of, first_met, cleared, outcome, slices_after, Serves, Answers, work_too_short, table_length, has_bad_word, not_aTable, result_too_short, table_checks, pattern_checks, search_checks, check_service, read_service, extract_service, count_service, locate_service, convert_order_service}
+use Rattle.definitions.specs.Services.{sample_order, former_order, Check, Service, Outcome, done, refused, outcome_of, first_met, cleared, outcome, slices_after, Serves, Answers, work_too_short, table_length, has_bad_word, not_a_table, result_too_short, table_checks, pattern_checks, search_checks, check_service, read_service, extract_service, count_service, locate_service, convert_order_service}
 use Rattle.lists.specs.Bools.{not_so}
 use Rattle.lists.specs.Numbers.{split_le, split_lt, every_at, every_all}
 use Rattle.lists.specs.Lists.{Overlap, within, across, overlap, placed_front}
@@ -361,7 +361,7 @@ module _ (t : List ℕ) (a : is_table former_order t ≡ true) where
         let (low, high, i, j, l, h) = mixed in
         not_so (is_table sample_order t) (λ b. ⊎_elim (λ f. omega (arith, h, f high j)) (λ f. omega (arith, l, f low i)) (both_sides t a b))
 
-    mixed_first : (n : ℕ) → 16384 ≤ n → First (not_aTable sample_order t) (table_checks sample_order t n)
+    mixed_first : (n : ℕ) → 16384 ≤ n → First (not_a_table sample_order t) (table_checks sample_order t n)
     unfolding table_checks
     mixed_first n long =
         later (work_too_short n) (le-ltb n 16384 long)
@@ -374,7 +374,7 @@ module _ (t : List ℕ) (a : is_table former_order t ≡ true) where
         let refusal : Check → Outcome = λ c. refused c.number c.place in
         ap (λ (c : List Check). first_met c refusal s.success) e
         ∙ passed_front (table_checks sample_order t n ++ rest) refusal s.success p
-        ∙ first_decides (not_aTable sample_order t) refusal s.success (first_before rest (mixed_first n long))
+        ∙ first_decides (not_a_table sample_order t) refusal s.success (first_before rest (mixed_first n long))
 
     -- checking among them
     pub mixed_checked : (work : List ℕ) → 16384 ≤ length work → outcome (check_service sample_order t work) ≡ refused 7 0

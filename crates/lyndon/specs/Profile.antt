@@ -11,7 +11,7 @@ use Rattle.definitions.specs.declared.Order.{Order}
 use Rattle.definitions.specs.Words.{every}
 use Rattle.definitions.specs.Profile.{on_heading, first_off, at_rest, is_profile}
 use Rattle.definitions.specs.Table.{table_of, text_of, rule_count}
-use Rattle.definitions.specs.Services.{Outcome, done, refused, Check, first_met, outcome, slices_after, Serves, text_too_long, work_too_short, table_length, has_bad_word, not_aTable, result_too_short, off_heading, not_at_rest, table_checks, profile_checks, drive_checks, build_service, build_profile_service, check_profile_service}
+use Rattle.definitions.specs.Services.{Outcome, done, refused, Check, first_met, outcome, slices_after, Serves, text_too_long, work_too_short, table_length, has_bad_word, not_a_table, result_too_short, off_heading, not_at_rest, table_checks, profile_checks, drive_checks, build_service, build_profile_service, check_profile_service}
 use Rattle.lists.specs.Bools.{either, contra, and_left, and_right, and_intro}
 use Rattle.lists.specs.Numbers.{every_least}
 use Rattle.lists.specs.Decisions.{Passed, none, more, passed_all, passed_front, both_passed, passed_parts}
@@ -75,7 +75,7 @@ profile_checked o text chair work ok h long =
     let (a, b, c) = (passes o t).1 (text, chair, ok, refl) in
     passed_all (λ d. refused d.number d.place) (done (rule_count t) 0)
     (both_passed
-    (more (work_too_short (length work)) (le-ltb (length work) 16384 long) (more (table_length (length t)) a (more (has_bad_word t) b (more (not_aTable o t) c none))))
+    (more (work_too_short (length work)) (le-ltb (length work) 16384 long) (more (table_length (length t)) a (more (has_bad_word t) b (more (not_a_table o t) c none))))
     (profile_passed true (text_of o t) (rw (table_text o text chair ok) h)))
 
 pub checked_profile : (o : Order) (t work : List ℕ) (k c : ℕ) → outcome (check_profile_service o t work) ≡ done k c

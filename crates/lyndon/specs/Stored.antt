@@ -12,7 +12,7 @@ use Rattle.definitions.specs.declared.Order.{Order}
 use Rattle.definitions.specs.Words.{least, same}
 use Rattle.definitions.specs.Grammar.{order, rules_of}
 use Rattle.definitions.specs.Table.{byte_of, marked, number_of, words, table_of, bad_word, strings, rule_string, spelled, text_of, chair_of, is_drive, is_chair, is_table, rule_count}
-use Rattle.definitions.specs.Services.{table_length, has_bad_word, not_aTable}
+use Rattle.definitions.specs.Services.{table_length, has_bad_word, not_a_table}
 use Rattle.lists.specs.Bools.{and_left, and_right, and_intro}
 use Rattle.lists.specs.Strings.{same_eq, same_self}
 use Rattle.lyndon.specs.Numbering.{order_numbered}
@@ -162,7 +162,7 @@ table_injective o x y c d h k e = (
 
 -- so it passes the checks of refusals 5, 6 and 7 exactly when it is the table of some drive and chair number
 abbrev pub Acceptable : Order → List ℕ → Type 0
-Acceptable o t = ((table_length (length t)).met ≡ false) × ((has_bad_word t).met ≡ false) × ((not_aTable o t).met ≡ false)
+Acceptable o t = ((table_length (length t)).met ≡ false) × ((has_bad_word t).met ≡ false) × ((not_a_table o t).met ≡ false)
 
 stored_passes : (o : Order) (text : List ℕ) (chair : ℕ) → Stored text chair → Acceptable o (table_of o text chair)
 stored_passes o text chair ok =

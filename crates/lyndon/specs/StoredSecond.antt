@@ -7,7 +7,7 @@ use Rattle.definitions.specs.declared.Order.{Order}
 use Rattle.definitions.specs.Words.{same, least}
 use Rattle.definitions.specs.Table.{is_drive, is_chair, table_of, text_of, chair_of, is_table}
 use Rattle.definitions.specs.SecondEdition.{second_edition, second_of, bad_in_second, text_of_second, is_second}
-use Rattle.definitions.specs.Services.{second_length, has_bad_in_second, not_aSecond}
+use Rattle.definitions.specs.Services.{second_length, has_bad_in_second, not_a_second}
 use Rattle.lists.specs.Numbers.{least_none}
 use Rattle.lyndon.specs.Stored.{Stored, table_size, table_text, table_chair, table_accepted, accepted_stored, accepted_table}
 use Rattle.lyndon.specs.Shapes.{stored_shaped}
@@ -82,7 +82,7 @@ second_injective o x y c d h k e = (
 -- ---- the checks of refusals 5, 6 and 7
 
 abbrev pub AcceptableSecond : Order → List ℕ → Type 0
-AcceptableSecond o s = ((second_length (length s)).met ≡ false) × ((has_bad_in_second s).met ≡ false) × ((not_aSecond o s).met ≡ false)
+AcceptableSecond o s = ((second_length (length s)).met ≡ false) × ((has_bad_in_second s).met ≡ false) × ((not_a_second o s).met ≡ false)
 
 stored_passes : (o : Order) (text : List ℕ) (chair : ℕ) → Stored text chair → AcceptableSecond o (second_of o text chair)
 stored_passes o text chair ok =

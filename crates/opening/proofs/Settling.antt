@@ -12,7 +12,7 @@ use Rattle.definitions.specs.declared.Order.{Order}
 use Rattle.definitions.specs.declared.Answer.{Answer}
 use Rattle.definitions.specs.declared.Answer.TheVariants.{Done, Refused}
 use Rattle.definitions.specs.Table.{text_of, chair_of, is_table, rule_count}
-use Rattle.definitions.specs.Services.{cleared, work_too_short, table_length, has_bad_word, not_aTable, table_checks}
+use Rattle.definitions.specs.Services.{cleared, work_too_short, table_length, has_bad_word, not_a_table, table_checks}
 use Rattle.lists.specs.Bools.{contra}
 use Rattle.lists.specs.Decisions.{met, later, none, more, refused_met, done_met}
 use Rattle.lyndon.specs.Stored.{accepted_table}
@@ -27,16 +27,16 @@ module _ (o : Order) (t work y : List ℕ) (r : Answer) (long : WORK ≤ length 
   settled_refused z e f = record {
     answer = j.answer;
     foreign = λ q. work_cleared work y z long size f;
-    accepted = λ q. contra (refused_met (not_aTable o t) (rule_count t) j.answer e).0 q;
+    accepted = λ q. contra (refused_met (not_a_table o t) (rule_count t) j.answer e).0 q;
   }
 
   pub settled_done : {a : ℕ} → r ≡ Done a → Settled o t work (y ++ drop WORK work) r
   settled_done e =
-      let accepted = not-false (is_table o t) (done_met (not_aTable o t) (rule_count t) j.answer e).0 in
+      let accepted = not-false (is_table o t) (done_met (not_a_table o t) (rule_count t) j.answer e).0 in
       let front : length y ≡ WORK = size ∙ length-take-le WORK work long in
       record {
         answer = j.answer;
-        foreign = λ q. contra q (done_met (not_aTable o t) (rule_count t) j.answer e).0;
+        foreign = λ q. contra q (done_met (not_a_table o t) (rule_count t) j.answer e).0;
         accepted = λ q. record {
           accepted = accepted;
           long = omega (arith, length-append y (drop WORK work));
@@ -49,13 +49,13 @@ module _ (o : Order) (t work y : List ℕ) (r : Answer) (long : WORK ≤ length 
 pub settled_admitted : (o : Order) (t work held : List ℕ) (r : Answer) → (work_too_short (length work)).met ≡ false → (table_length (length t)).met ≡ false → (has_bad_word t).met ≡ false
     → Settled o t work held r → Admitted o t work held r
 unfolding table_checks
-settled_admitted o t work held r room size words s = go (not_aTable o t).met refl
+settled_admitted o t work held r room size words s = go (not_a_table o t).met refl
   where
-    go : (b : Bool) → (not_aTable o t).met ≡ b → Admitted o t work held r
+    go : (b : Bool) → (not_a_table o t).met ≡ b → Admitted o t work held r
     go true q =
         subst (Admitted o t work held) (sym (s.answer ∙ ap (λ (m : Bool). cond m (Refused 7 0) (Done (rule_count t))) q))
-        (turned_down (not_aTable o t) (later (work_too_short (length work)) room (later (table_length (length t)) size (later (has_bad_word t) words (met q)))) (s.foreign q))
+        (turned_down (not_a_table o t) (later (work_too_short (length work)) room (later (table_length (length t)) size (later (has_bad_word t) words (met q)))) (s.foreign q))
     go false q =
         let x = s.accepted q in
         subst (Admitted o t work held) (sym (s.answer ∙ ap (λ (m : Bool). cond m (Refused 7 0) (Done (rule_count t))) q ∙ ap (λ (l : List ℕ). Done (rule_count l)) (sym (accepted_table o t x.accepted))))
-        (opened (more (work_too_short (length work)) room (more (table_length (length t)) size (more (has_bad_word t) words (more (not_aTable o t) q none)))) x)
+        (opened (more (work_too_short (length work)) room (more (table_length (length t)) size (more (has_bad_word t) words (more (not_a_table o t) q none)))) x)

@@ -5,7 +5,7 @@ use Rattle.definitions.specs.declared.Order.{Order}
 use Rattle.definitions.specs.declared.Answer.{Answer}
 use Rattle.definitions.specs.declared.Answer.TheVariants.{Done, Refused}
 use Rattle.definitions.specs.Table.{table_of, text_of, chair_of, is_table, rule_count}
-use Rattle.definitions.specs.Services.{Check, work_slice, cleared, table_checks, not_aTable}
+use Rattle.definitions.specs.Services.{Check, work_slice, cleared, table_checks, not_a_table}
 use Rattle.lists.specs.Decisions.{First, Passed, checked}
 use Rattle.layout.specs.Layout.{WORK}
 use Rattle.state.specs.State.{Loaded}
@@ -30,6 +30,6 @@ pub data Admitted (o : Order) (t work held : List ℕ) : Answer → Type 0 where
 
 -- how its last check ends
 pub record Settled (o : Order) (t work held : List ℕ) (r : Answer) : Type 0 where
-  pub answer : r ≡ checked (not_aTable o t) (rule_count t)
-  pub foreign : (not_aTable o t).met ≡ true → held ≡ cleared work
-  pub accepted : (not_aTable o t).met ≡ false → Opened o t work held
+  pub answer : r ≡ checked (not_a_table o t) (rule_count t)
+  pub foreign : (not_a_table o t).met ≡ true → held ≡ cleared work
+  pub accepted : (not_a_table o t).met ≡ false → Opened o t work held

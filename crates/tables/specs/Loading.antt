@@ -5,7 +5,7 @@ use Rattle.definitions.specs.declared.Answer.{Answer}
 use Rattle.definitions.specs.declared.Order.{Order}
 use Rattle.definitions.specs.Words.{every}
 use Rattle.definitions.specs.Table.{text_of, chair_of, is_table, rule_count}
-use Rattle.definitions.specs.Services.{not_aTable}
+use Rattle.definitions.specs.Services.{not_a_table}
 use Rattle.lists.specs.Decisions.{checked}
 use Rattle.lyndon.specs.Twins.{is_new}
 use Rattle.filling.specs.Filling.{Filling}
@@ -24,5 +24,5 @@ pub record Spelled (t w : List ℕ) : Type 0 where
 
 -- refusal 7, or the number of rules; a table that is accepted is loaded
 pub record Judged (o : Order) (t w : List ℕ) (r : Answer) : Type 0 where
-  pub answer : r ≡ checked (not_aTable o t) (rule_count t)
+  pub answer : r ≡ checked (not_a_table o t) (rule_count t)
   pub loaded : is_table o t ≡ true → Loaded o (text_of o t) (chair_of t) w
