@@ -1,6 +1,6 @@
 -- A drive from the lists of its single samples: a sample written where it stands (`put_all`), the samples below k written so far (`SoFar`), and how many these are (`number_below`).
 -- One sample more: `number_more`, `so_far_more`; all of them: `number_all`, `so_far_all`.
-use Rattle.std.specs.Prelude.{◌≡◌, refl, Bool, true, false, cond, ◌&&◌, ◌⊎◌, ℕ, zero, suc, ◌+◌, ◌-◌, ◌≤◌, ◌<◌, length, take, drop, get_or, set, ltb, eqb}
+use Rattle.std.specs.Prelude.{◌≡◌, refl, Bool, true, false, cond, ◌&&◌, ℕ, zero, suc, ◌+◌, ◌≤◌, ◌<◌, length, take, drop, get_or, set, ltb, eqb}
 use Rattle.std.proofs.Math.Path.{sym}
 use Rattle.std.proofs.Common.{◌∙◌, ap, ap₂, subst, ⊎_elim, arith, length-set, length-append, drop_of_length-le, le_refl, drop-cons, get_or-set_same, get_or-set_other, lt-ltb, le-ltb, eqb-true, eq-eqb, ne_eqb}
 use mathlib.Core.List.Memᴰ.{cases_cons as in-cons}

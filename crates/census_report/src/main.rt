@@ -3,26 +3,19 @@
 #![tactic(auto)]
 
 use census_output::answer;
-use libc::{STDERR_FILENO, STDOUT_FILENO};
 use standard_input::{Input, read_input};
 
 // Reads at most 2,049 bytes: a longer input is refused, and so many show it. A read or a write that fails is said on standard error.
-fn main() {
+fn main(rt: HostRuntime) {
     let mut input = [0u8; 2049];
-    let a = read_input(&mut input);
+    let a = read_input(&mut rt.stdin(), &mut input);
     let Input::Read(n) = a else {
-        io::write_all(
-            STDERR_FILENO,
-            b"census_report: standard input was not read to its end\n",
-        );
+        let _ = eprintln!(rt; "census_report: standard input was not read to its end");
         return;
     };
     let mut out = [0u8; 75744];
     let m = answer(&input[0..n], &mut out);
-    if !io::write_all(STDOUT_FILENO, &out[0..m]) {
-        io::write_all(
-            STDERR_FILENO,
-            b"census_report: the answer was not written to its end\n",
-        );
+    if rt.write_all(&out[0..m]).is_err() {
+        let _ = eprintln!(rt; "census_report: the answer was not written to its end");
     }
 }

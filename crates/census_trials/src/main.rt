@@ -7,26 +7,28 @@ ghost use Rattle.std.specs.Prelude.{◌≤◌, length};
 
 use census::census;
 use definitions::Answer;
-use libc::{STDIN_FILENO, STDOUT_FILENO};
 use naive_census::distinct_runs;
 use naive_words::is_smaller;
 use slices::wide;
+use standard_input::read_front;
+use std::io::Stdout;
 
 // More than any list has: what `told` answers where the library refuses.
 const NONE: usize = 4294967295;
 
-fn main() {
-    let mut input = io::buffer();
-    let n = io::read_full(STDIN_FILENO, &mut input);
-    run(&input[0..n]);
+// Reads at most 4,096 bytes. A write that fails is passed over.
+fn main(rt: HostRuntime) {
+    let mut input = [0u8; 4096];
+    let n = read_front(&mut rt.stdin(), &mut input);
+    run(rt.stdout(), &input[0..n]);
 }
 
 // Tries every line.
-fn run(input: &[u8]) {
+fn run(to: Stdout, input: &[u8]) {
     let mut i = 0;
     while i < input.len() {
         let e = end_of(input, i);
-        try_line(&input[i..e]);
+        try_line(to, &input[i..e]);
         i = e + 1;
     }
 }
@@ -47,12 +49,12 @@ fn end_of(s: &[u8], i: usize) -> usize
 }
 
 // Tries one line.
-fn try_line(line: &[u8]) {
-    print(line);
+fn try_line(to: Stdout, line: &[u8]) {
+    print(to, line);
     if 0 < line.len() {
-        try_drive(digit(line[0]), &line[1..]);
+        try_drive(to, digit(line[0]), &line[1..]);
     }
-    print(b"\n");
+    print(to, b"\n");
 }
 
 // What a digit means.
@@ -64,61 +66,61 @@ fn digit(b: u8) -> usize {
 }
 
 // Builds the table of a drive, and tries it.
-fn try_drive(q: usize, drive: &[u8]) {
+fn try_drive(to: Stdout, q: usize, drive: &[u8]) {
     let mut work = [7u32; 16384];
     let mut table = [7u32; 254];
-    let n = told(index::build(drive, 0, &mut work, &mut table));
+    let n = told(to, index::build(drive, 0, &mut work, &mut table));
     if n <= 254 {
-        try_table(q, &table[0..n], drive);
+        try_table(to, q, &table[0..n], drive);
     }
 }
 
 // Takes the census of a table.
-fn try_table<'a>(q: usize, table: &'a [u32], drive: &'a [u8]) {
+fn try_table<'a>(to: Stdout, q: usize, table: &'a [u32], drive: &'a [u8]) {
     let mut work = [7u32; 16384];
     let mut runs = [7u8; 512];
     let mut counts = [7u32; 64];
-    let n = told(census(table, q, &mut work, &mut runs, &mut counts));
+    let n = told(to, census(table, q, &mut work, &mut runs, &mut counts));
     if n <= 64 {
-        print_census(q, &runs, &counts[0..n], drive);
+        print_census(to, q, &runs, &counts[0..n], drive);
     }
 }
 
 // Prints a census, and whether the naive sides say the same.
-fn print_census<'a>(q: usize, runs: &'a [u8], counts: &'a [u32], drive: &'a [u8])
+fn print_census<'a>(to: Stdout, q: usize, runs: &'a [u8], counts: &'a [u32], drive: &'a [u8])
     requires { (512 ≤ length runs.now) × (length counts.now ≤ 64) }
 {
-    print_number(b" runs ", counts.len());
+    print_number(to, b" runs ", counts.len());
     if 8 < q {
         return;
     }
-    print_runs(q, runs, counts);
+    print_runs(to, q, runs, counts);
     if is_census(q, runs, counts, drive) {
-        print(b" by both");
+        print(to, b" by both");
     }
 }
 
 // Prints each run and its count.
-fn print_runs<'a>(q: usize, runs: &'a [u8], counts: &'a [u32])
+fn print_runs<'a>(to: Stdout, q: usize, runs: &'a [u8], counts: &'a [u32])
     requires { (q ≤ 8) × (512 ≤ length runs.now) × (length counts.now ≤ 64) }
 {
     let mut i = 0;
     let mut start = 0;
     while i < counts.len() {
         let end = start + q;
-        print_samples(&runs[start..end]);
-        print_number(b" x", wide(counts[i]));
+        print_samples(to, &runs[start..end]);
+        print_number(to, b" x", wide(counts[i]));
         start = end;
         i += 1;
     }
 }
 
 // Prints the samples of a run.
-fn print_samples(run: &[u8]) {
-    print(b";");
+fn print_samples(to: Stdout, run: &[u8]) {
+    print(to, b";");
     let mut i = 0;
     while i < run.len() {
-        print_number(b" ", run[i] as usize);
+        print_number(to, b" ", run[i] as usize);
         i += 1;
     }
 }
@@ -207,10 +209,10 @@ fn positions(n: usize, q: usize) -> usize
 }
 
 // What success gives; where the library refuses, its number is printed.
-fn told(a: Answer) -> usize {
+fn told(to: Stdout, a: Answer) -> usize {
     match a {
         Answer::Refused(number, _) => {
-            print_number(b" refused ", wide(number));
+            print_number(to, b" refused ", wide(number));
             NONE
         }
         Answer::Done(n) => n,
@@ -218,12 +220,12 @@ fn told(a: Answer) -> usize {
 }
 
 // Prints bytes and a number.
-fn print_number(name: &[u8], n: usize) {
-    print(name);
-    io::print_decimal(STDOUT_FILENO, n as u64);
+fn print_number(to: Stdout, name: &[u8], n: usize) {
+    print(to, name);
+    let _ = print!(to; "{n}");
 }
 
 // Prints bytes.
-fn print(s: &[u8]) {
-    io::write_all(STDOUT_FILENO, s);
+fn print(to: Stdout, s: &[u8]) {
+    let _ = to.write_all(s);
 }

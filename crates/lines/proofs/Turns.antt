@@ -1,7 +1,7 @@
 -- How long is what a loop writes turn by turn (`turns_most`), and how it stands at the front of a slice: nothing at first (`turns_none`), room for one turn more
 -- (`turns_spare`, `turns_room`), one turn more in the rest of the slice (`turns_stored`), and all (`turns_all`).
-use mathlib.Core.Path.{◌≡◌, refl, sym, ◌∙◌, ap}
-use mathlib.Core.List.{List, [], ◌++◌, append_assoc, append-nil}
+use mathlib.Core.Path.{◌≡◌, sym, ◌∙◌, ap}
+use mathlib.Core.List.{List, ◌++◌, append_assoc, append-nil}
 use Prim.Native.Nat.{ℕ, zero, suc, ◌+◌, ◌-◌, ◌*◌, ◌≤◌, ◌<◌}
 use native.Mathlib.Omega.{arith}
 use native.Mathlib.Numerals.{add-one}

@@ -1,33 +1,33 @@
 -- Tables without a bad word: each rule is a symbol or two rules before it (`shape`), and spells one symbol or what these two spell
 -- (`symbol_string`, `pair_string`); no rule spells nothing (`string_filled`), and every
 -- symbol is a rank (`string_ranks`).
-use Rattle.std.specs.Prelude.{◌≡◌, Bool, true, false, cond, not, ◌&&◌, ◌||◌, ◌⊎◌, ℕ, zero, suc, ◌+◌, ◌-◌, ◌*◌, ◌/◌, ◌%◌, ◌≤◌, ◌<◌, length, get_or, ltb, leb, eqb}
-use Rattle.std.proofs.Math.Path.{refl, sym}
-use Rattle.std.proofs.Common.{◌∙◌, ap₂, subst, inl, inr, ⊎_elim, arith, length-append, ltb-true, leb-true, eqb-true, eq-eqb, ne_eqb}
+use Rattle.std.specs.Prelude.{◌≡◌, Bool, true, false, cond, not, ◌&&◌, ◌||◌, ◌⊎◌, length, ltb, leb, eqb}
+use Rattle.std.proofs.Math.Path.{refl, ap}
+use Rattle.std.proofs.Common.{sym, ◌∙◌, ap₂, subst, inl, inr, ⊎_elim, arith, ltb-true, leb-true, eqb-true, eq-eqb, ne_eqb}
 use Rattle.std.proofs.Math.Bool.{or-false}
 use mathlib.Core.List.Memᴰ.{append_cases as in-append}
 use mathlib.Core.List.Memᴰ.{eq_of_singleton as in_one}
 use mathlib.Core.List.{List, [], ◌∷◌, ◌++◌, Memᴰ as In}
+use Prim.Native.Nat.{ℕ, zero, suc, ◌+◌, ◌-◌, ◌*◌, ◌/◌, ◌%◌, ◌≤◌, ◌<◌}
+use Rattle.std.proofs.Math.Nat.{add-zero, add-suc}
+use Rattle.std.proofs.Math.ListN.{get_or, length-append, get_or-append}
+use Rattle.std.proofs.Math.Seq.{get_or-append_seam}
 use Rattle.std.proofs.lemmas.Bool.{not-false}
 use Rattle.definitions.specs.declared.Order.{Order}
 use Rattle.definitions.specs.Table.{table_of, chair_of, rank_of_number, kind_of, number_of, bad_first, bad_second, bad_word, string_of, strings, rule_string, rule_count}
 use Rattle.lists.specs.Bools.{and_left, and_right, or_cases}
 use Rattle.lists.specs.Numbers.{least_before}
-use Rattle.lists.specs.Lists.{grown_length, grown_at}
 use Rattle.lyndon.specs.Ranks.{rank_range}
 use Rattle.lyndon.specs.Encoding.{beside}
 use Rattle.lyndon.specs.Stored.{Stored, table_length_lem, table_filled, table_no_bad}
 
 -- ---- the two kinds of rules
 
--- x and y are the words of a rule r: a symbol's, or those of two rules before it
-pub data ShapeOf (r x y : ℕ) : Type 0 where
-  one : kind_of x ≡ 0 → number_of x < 257 → kind_of y ≡ 3 → number_of y < 65536 → ShapeOf r x y
-  two : kind_of x ≡ 1 → number_of x < r → kind_of y ≡ 2 → number_of y < r → ShapeOf r x y
-
--- the words of rule r of a table
-abbrev pub Shape : List ℕ → ℕ → Type 0
-Shape t r = ShapeOf r (get_or t (2 * r) 0) (get_or t (2 * r + 1) 0)
+pub data Shape (t : List ℕ) (r : ℕ) : Type 0 where
+  one : kind_of (get_or t (2 * r) 0) ≡ 0 → number_of (get_or t (2 * r) 0) < 257 → kind_of (get_or t (2 * r + 1) 0) ≡ 3
+      → number_of (get_or t (2 * r + 1) 0) < 65536 → Shape t r
+  two : kind_of (get_or t (2 * r) 0) ≡ 1 → number_of (get_or t (2 * r) 0) < r → kind_of (get_or t (2 * r + 1) 0) ≡ 2
+      → number_of (get_or t (2 * r + 1) 0) < r → Shape t r
 
 -- no word of the table is bad, and its words are even in number
 pub record Shaped (t : List ℕ) : Type 0 where
@@ -53,18 +53,24 @@ second_good t r s h =
     rw (ne_eqb ((2 * r + 1) % 2) 0 z, q, p) at e
 
 -- the second word's test, behind either kind
-second_symbol : (r x y : ℕ) → kind_of x ≡ 0 → bad_second r x y ≡ false → eqb (kind_of y) 3 && leb (number_of y) (cond (eqb r 0) 65535 0) ≡ true
+pub second_symbol : (r x y : ℕ) → kind_of x ≡ 0 → bad_second r x y ≡ false → eqb (kind_of y) 3 && leb (number_of y) (cond (eqb r 0) 65535 0) ≡ true
 unfolding bad_second
 second_symbol r x y e f = not-false (eqb (kind_of y) 3 && leb (number_of y) (cond (eqb r 0) 65535 0)) (rw e at f)
 
-second_pair : (r x y : ℕ) → kind_of x ≡ 1 → bad_second r x y ≡ false → eqb (kind_of y) 2 && ltb (number_of y) r ≡ true
+pub second_pair : (r x y : ℕ) → kind_of x ≡ 1 → bad_second r x y ≡ false → eqb (kind_of y) 2 && ltb (number_of y) r ≡ true
 unfolding bad_second
 second_pair r x y e f = not-false (eqb (kind_of y) 2 && ltb (number_of y) r) (sym (or-false (not (eqb (kind_of y) 2 && ltb (number_of y) r))) ∙ rw e at f)
 
-pub words_shape : (r x y : ℕ) → bad_first r x ≡ false → bad_second r x y ≡ false → ShapeOf r x y
+pub shape : (t : List ℕ) (r : ℕ) → Shaped t → r < rule_count t → Shape t r
 unfolding bad_first
-words_shape r x y first second = go (or_cases (eqb k 0 && leb n 256) (eqb k 1 && ltb n r) (not-false ((eqb k 0 && leb n 256) || (eqb k 1 && ltb n r)) first))
+shape t r s h = go (or_cases (eqb k 0 && leb n 256) (eqb k 1 && ltb n r) (not-false ((eqb k 0 && leb n 256) || (eqb k 1 && ltb n r)) (first_good t r s h)))
   where
+    x : ℕ
+    x = get_or t (2 * r) 0
+
+    y : ℕ
+    y = get_or t (2 * r + 1) 0
+
     k : ℕ
     k = kind_of x
 
@@ -84,20 +90,17 @@ words_shape r x y first second = go (or_cases (eqb k 0 && leb n 256) (eqb k 1 &&
     small true e q = omega (arith, rw e at q)
     small false e q = omega (arith, rw e at q)
 
-    go : (eqb k 0 && leb n 256 ≡ true) ⊎ (eqb k 1 && ltb n r ≡ true) → ShapeOf r x y
+    go : (eqb k 0 && leb n 256 ≡ true) ⊎ (eqb k 1 && ltb n r ≡ true) → Shape t r
     go (inl e) =
         let z = eqb-true k 0 (and_left (eqb k 0) (leb n 256) e) in
-        let f = second_symbol r x y z second in
+        let f = second_symbol r x y z (second_good t r s h) in
         let b = leb-true n 256 (and_right (eqb k 0) (leb n 256) e) in
         one z (omega (arith, b)) (eqb-true l 3 (and_left (eqb l 3) (leb m most) f))
         (small (eqb r 0) refl (leb-true m most (and_right (eqb l 3) (leb m most) f)))
     go (inr e) =
         let z = eqb-true k 1 (and_left (eqb k 1) (ltb n r) e) in
-        let f = second_pair r x y z second in
+        let f = second_pair r x y z (second_good t r s h) in
         two z (ltb-true n r (and_right (eqb k 1) (ltb n r) e)) (eqb-true l 2 (and_left (eqb l 2) (ltb m r) f)) (ltb-true m r (and_right (eqb l 2) (ltb m r) f))
-
-pub shape : (t : List ℕ) (r : ℕ) → Shaped t → r < rule_count t → Shape t r
-shape t r s h = words_shape r (get_or t (2 * r) 0) (get_or t (2 * r + 1) 0) (first_good t r s h) (second_good t r s h)
 
 -- beside a symbol stands the chair number in rule 0, and 0 in any other
 pub symbol_beside : (t : List ℕ) (r : ℕ) → Shaped t → r < rule_count t → kind_of (get_or t (2 * r) 0) ≡ 0 → number_of (get_or t (2 * r + 1) 0) ≡ beside (chair_of t) r
@@ -120,26 +123,29 @@ chair_small t s = go (shape t 0 s (omega (arith, s.even, s.filled)))
 -- ---- what the rules spell
 
 module _ (o : Order) (t : List ℕ) where
-  -- the string that rule r adds to those before it
-  abbrev added : ℕ → List ℕ
-  added r = string_of o (strings o t r) (get_or t (2 * r) 0) (get_or t (2 * r + 1) 0)
-
   pub strings_length : (n : ℕ) → length (strings o t n) ≡ n
   unfolding strings
-  strings_length n = grown_length (strings o t) added refl (λ m. refl) n
-
-  string_at : (n r : ℕ) → r < n → get_or (strings o t n) r [] ≡ added r
-  unfolding strings
-  string_at n r h = grown_at (strings o t) added refl (λ m. refl) n r [] h
+  strings_length zero = refl
+  strings_length (suc n) = simp length-append (omega (arith, strings_length n))
 
   -- more rules behind change no string
-  string_in : (n r : ℕ) → r < n → n ≤ rule_count t → get_or (strings o t n) r [] ≡ rule_string o t r
-  unfolding rule_string
-  string_in n r h l = string_at n r h ∙ sym (string_at (rule_count t) r (omega arith))
+  strings_more : (n m r : ℕ) → r < n → get_or (strings o t (n + m)) r [] ≡ get_or (strings o t n) r []
+  unfolding strings
+  strings_more n zero r h = rw add-zero
+  strings_more n (suc m) r h =
+      rw add-suc
+      (get_or-append (strings o t (n + m)) (string_of o (strings o t (n + m)) (get_or t (2 * (n + m)) 0) (get_or t (2 * (n + m) + 1) 0) ∷ []) [] r (omega (arith, strings_length (n + m)))
+      ∙ strings_more n m r h)
 
-  rule_string_lem : (r : ℕ) → r < rule_count t → rule_string o t r ≡ added r
-  unfolding rule_string
-  rule_string_lem r h = string_at (rule_count t) r h
+  string_in : (n m r : ℕ) → r < n → n ≤ m → get_or (strings o t m) r [] ≡ get_or (strings o t n) r []
+  string_in n m r h l = subst (λ (k : ℕ). get_or (strings o t k) r [] ≡ get_or (strings o t n) r []) (omega arith) (strings_more n (m - n) r h)
+
+  rule_string_lem : (r : ℕ) → r < rule_count t → rule_string o t r ≡ string_of o (strings o t r) (get_or t (2 * r) 0) (get_or t (2 * r + 1) 0)
+  unfolding rule_string strings
+  rule_string_lem r h =
+      string_in (suc r) (rule_count t) r (omega arith) h
+      ∙ ap (λ (k : ℕ). get_or (strings o t (suc r)) k []) (sym (strings_length r))
+      ∙ get_or-append_seam (strings o t r) (string_of o (strings o t r) (get_or t (2 * r) 0) (get_or t (2 * r + 1) 0)) [] []
 
   pub symbol_string : (r : ℕ) → r < rule_count t → kind_of (get_or t (2 * r) 0) ≡ 0 → rule_string o t r ≡ rank_of_number o (number_of (get_or t (2 * r) 0)) ∷ []
   unfolding string_of
@@ -147,13 +153,13 @@ module _ (o : Order) (t : List ℕ) where
 
   pub pair_string : (r : ℕ) → r < rule_count t → kind_of (get_or t (2 * r) 0) ≡ 1 → number_of (get_or t (2 * r) 0) < r → number_of (get_or t (2 * r + 1) 0) < r
       → rule_string o t r ≡ rule_string o t (number_of (get_or t (2 * r) 0)) ++ rule_string o t (number_of (get_or t (2 * r + 1) 0))
-  unfolding string_of
+  unfolding string_of rule_string
   pair_string r h e u v =
       rule_string_lem r h
       ∙ rw e
       (ap₂ {C = List ℕ} (λ x y. x ++ y)
-      (string_in r (number_of (get_or t (2 * r) 0)) u (omega arith))
-      (string_in r (number_of (get_or t (2 * r + 1) 0)) v (omega arith)))
+      (sym (string_in r (rule_count t) (number_of (get_or t (2 * r) 0)) u (omega arith)))
+      (sym (string_in r (rule_count t) (number_of (get_or t (2 * r + 1) 0)) v (omega arith))))
 
 -- what holds of every symbol that a rule may spell, and of two strings together where it holds of both, holds of every rule's string
 by_rules : (o : Order) (t : List ℕ) → Shaped t → (P : List ℕ → Type 0) → ((n : ℕ) → n < 257 → P (rank_of_number o n ∷ []))

@@ -104,35 +104,39 @@ module _ (o : Order) (text : List ℕ) (chair : ℕ) (ok : Stored text chair) wh
       go (one a l e f s) = rw s (word_number 3 chair (omega (arith, ok.chairs)))
       go (two i j p q k e g f s) = absurd (omega arith)
 
--- words are accepted, in either edition, if what they spell can be stored, and if they are the words u that are made of it
-pub spelled_stored : (text : List ℕ) (chair : ℕ) (u t : List ℕ) → is_drive text && (is_chair chair && same u t) ≡ true → Stored text chair × (u ≡ t)
-unfolding is_chair
-spelled_stored text chair u t e =
-    let (short, bytes) = drive_is text (and_left (is_drive text) (is_chair chair && same u t) e) in
-    let rest = and_right (is_drive text) (is_chair chair && same u t) e in (
-      record { short = short; bytes = bytes; chairs = omega (arith, leb-true chair 65535 (and_left (is_chair chair) (same u t) rest)) },
-      same_eq u t (and_right (is_chair chair) (same u t) rest),
-    )
+  -- ---- it is accepted
 
-pub stored_spelled : (text : List ℕ) (chair : ℕ) (u : List ℕ) → Stored text chair → is_drive text && (is_chair chair && same u u) ≡ true
-unfolding is_chair
-stored_spelled text chair u ok =
-    and_intro (is_drive text) (leb chair 65535 && same u u) (is_drive_lem text ok.short ok.bytes)
-    (and_intro (leb chair 65535) (same u u) (le-leb chair 65535 (omega (arith, ok.chairs))) (same_self u))
-
--- the table of a drive and a chair number is accepted
-pub table_accepted : (o : Order) (text : List ℕ) (chair : ℕ) → Stored text chair → is_table o (table_of o text chair) ≡ true
-unfolding is_table
-table_accepted o text chair ok = rw (table_text o text chair ok, table_chair o text chair ok) (stored_spelled text chair (table_of o text chair) ok)
+  pub table_accepted : is_table o (table_of o text chair) ≡ true
+  unfolding is_table is_chair
+  table_accepted =
+      rw (table_text, table_chair)
+      (and_intro (is_drive text) (leb chair 65535 && same (table_of o text chair) (table_of o text chair)) (is_drive_lem text ok.short ok.bytes)
+      (and_intro (leb chair 65535) (same (table_of o text chair) (table_of o text chair)) (le-leb chair 65535 (omega (arith, ok.chairs)))
+      (same_self (table_of o text chair))))
 
 -- and nothing else is: an accepted table is the table of the drive and chair number that it gives
 pub accepted_stored : (o : Order) (t : List ℕ) → is_table o t ≡ true → Stored (text_of o t) (chair_of t)
-unfolding is_table
-accepted_stored o t e = (spelled_stored (text_of o t) (chair_of t) (table_of o (text_of o t) (chair_of t)) t e).0
+unfolding is_table is_chair
+accepted_stored o t e =
+    let (short, bytes) = drive_is (text_of o t) (and_left (is_drive (text_of o t)) (is_chair (chair_of t) && spells) e) in
+    let rest = and_right (is_drive (text_of o t)) (is_chair (chair_of t) && spells) e in
+    record {
+      short = short;
+      bytes = bytes;
+      chairs = omega (arith, leb-true (chair_of t) 65535 (and_left (is_chair (chair_of t)) spells rest));
+    }
+  where
+    spells : Bool
+    spells = same (table_of o (text_of o t) (chair_of t)) t
 
 pub accepted_table : (o : Order) (t : List ℕ) → is_table o t ≡ true → table_of o (text_of o t) (chair_of t) ≡ t
 unfolding is_table
-accepted_table o t e = (spelled_stored (text_of o t) (chair_of t) (table_of o (text_of o t) (chair_of t)) t e).1
+accepted_table o t e =
+    same_eq (table_of o (text_of o t) (chair_of t)) t
+    (and_right (is_chair (chair_of t)) spells (and_right (is_drive (text_of o t)) (is_chair (chair_of t) && spells) e))
+  where
+    spells : Bool
+    spells = same (table_of o (text_of o t) (chair_of t)) t
 
 -- its strings are those of the marked drive's grammar, and what it spells is the marked drive
 pub accepted_strings : (o : Order) (t : List ℕ) → is_table o t ≡ true → strings o t (rule_count t) ≡ order (marked o (text_of o t))

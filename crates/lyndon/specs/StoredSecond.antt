@@ -1,18 +1,37 @@
 -- Second-edition tables read back: that of a drive and a chair number gives both (`second_text_back`, `second_chair_back`) and passes every check; a table is accepted exactly when it is that of some
 -- drive and chair number (`accepted_second`, and `passes_second` for the checks of 5, 6 and 7); and tables of both editions change to the other and back (`there_and_back`, `back_and_there`).
-use Rattle.std.specs.Prelude.{◌≡◌, refl, true, false, not, ◌↔◌, List, ℕ, ◌%◌, ◌≤◌, length}
-use Rattle.std.proofs.Common.{sym, ◌∙◌, ap, ap₂, subst, arith, le-ltb, eq-eqb, ne_eqb}
+use Rattle.std.specs.Prelude.{◌&&◌, ◌≡◌, refl, true, false, not, ◌↔◌, List, ℕ, ◌%◌, ◌≤◌, length}
+use Rattle.std.proofs.Common.{sym, ◌∙◌, ap, ap₂, subst, arith, le-ltb, eq-eqb, ne_eqb, leb, leb-true, le-leb}
 use Rattle.std.proofs.lemmas.Bool.{not-false}
 use Rattle.definitions.specs.declared.Order.{Order}
-use Rattle.definitions.specs.Words.{least}
-use Rattle.definitions.specs.Table.{table_of, text_of, chair_of, is_table}
+use Rattle.definitions.specs.Words.{same, least}
+use Rattle.definitions.specs.Table.{is_drive, is_chair, table_of, text_of, chair_of, is_table}
 use Rattle.definitions.specs.SecondEdition.{second_edition, second_of, bad_in_second, text_of_second, is_second}
 use Rattle.definitions.specs.Services.{second_length, has_bad_in_second, not_aSecond}
 use Rattle.lists.specs.Numbers.{least_none}
-use Rattle.lyndon.specs.Stored.{Stored, spelled_stored, stored_spelled, table_size, table_text, table_chair, table_accepted, accepted_stored, accepted_table}
+use Rattle.lyndon.specs.Stored.{Stored, table_size, table_text, table_chair, table_accepted, accepted_stored, accepted_table}
 use Rattle.lyndon.specs.Shapes.{stored_shaped}
 use Rattle.lyndon.specs.ShapedSecond.{ShapedSecond}
 use Rattle.lyndon.specs.Editions.{edition_most, edition_shaped, edition_chair, edition_text}
+use Rattle.lists.specs.Bools.{and_left, and_right, and_intro}
+use Rattle.lyndon.specs.Ranks.{drive_is, is_drive_lem}
+use Rattle.lists.specs.Strings.{same_eq, same_self}
+
+-- words are accepted, in either edition, if what they spell can be stored, and if they are the words u that are made of it
+pub spelled_stored : (text : List ℕ) (chair : ℕ) (u t : List ℕ) → is_drive text && (is_chair chair && same u t) ≡ true → Stored text chair × (u ≡ t)
+unfolding is_chair
+spelled_stored text chair u t e =
+    let (short, bytes) = drive_is text (and_left (is_drive text) (is_chair chair && same u t) e) in
+    let rest = and_right (is_drive text) (is_chair chair && same u t) e in (
+      record { short = short; bytes = bytes; chairs = omega (arith, leb-true chair 65535 (and_left (is_chair chair) (same u t) rest)) },
+      same_eq u t (and_right (is_chair chair) (same u t) rest),
+    )
+
+pub stored_spelled : (text : List ℕ) (chair : ℕ) (u : List ℕ) → Stored text chair → is_drive text && (is_chair chair && same u u) ≡ true
+unfolding is_chair
+stored_spelled text chair u ok =
+    and_intro (is_drive text) (leb chair 65535 && same u u) (is_drive_lem text ok.short ok.bytes)
+    (and_intro (leb chair 65535) (same u u) (le-leb chair 65535 (omega (arith, ok.chairs))) (same_self u))
 
 module _ (o : Order) (text : List ℕ) (chair : ℕ) (ok : Stored text chair) where
   pub second_shaped : ShapedSecond (second_of o text chair)

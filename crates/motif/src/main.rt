@@ -2,27 +2,20 @@
 // What it prints is `answer` of the bytes that are read (crate `motif_output`); `main` reads and writes.
 #![tactic(auto)]
 
-use libc::{STDERR_FILENO, STDOUT_FILENO};
 use motif_output::answer;
 use standard_input::{Input, read_input};
 
 // Reads at most 4,096 bytes: a longer input is refused, and so many show it. A read or a write that fails is said on standard error.
-fn main() {
+fn main(rt: HostRuntime) {
     let mut input = [0u8; 4096];
-    let a = read_input(&mut input);
+    let a = read_input(&mut rt.stdin(), &mut input);
     let Input::Read(n) = a else {
-        io::write_all(
-            STDERR_FILENO,
-            b"motif: standard input was not read to its end\n",
-        );
+        let _ = eprintln!(rt; "motif: standard input was not read to its end");
         return;
     };
     let mut out = [0u8; 22551];
     let m = answer(&input[0..n], &mut out);
-    if !io::write_all(STDOUT_FILENO, &out[0..m]) {
-        io::write_all(
-            STDERR_FILENO,
-            b"motif: the answer was not written to its end\n",
-        );
+    if rt.write_all(&out[0..m]).is_err() {
+        let _ = eprintln!(rt; "motif: the answer was not written to its end");
     }
 }

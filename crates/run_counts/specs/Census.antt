@@ -1,6 +1,6 @@
 -- What a census lists: every run of q samples of the text and no other (`census_all`, `census_only`), strictly rising (`census_rising`), with counts that add up to the text's
 -- length - q + 1, or to 0 if the text is shorter (`census_total`). Runs and counts by their keys: `census_runs_lem`, `census_counts_lem`.
-use Rattle.std.specs.Prelude.{◌≡◌, Bool, cond, ◌⊎◌, ℕ, zero, suc, ◌-◌, ◌≤◌, ◌<◌, length}
+use Rattle.std.specs.Prelude.{◌≡◌, Bool, cond, ℕ, zero, suc, ◌-◌, ◌≤◌, ◌<◌, length}
 use Rattle.std.proofs.Math.Path.{refl, sym, ap, subst}
 use Rattle.std.proofs.Common.{◌∙◌, ap₂, arith}
 use Rattle.std.proofs.Math.Bool.{true, false}

@@ -1,10 +1,12 @@
 // Standard input, as the programs read it: to its end, or until a slice is full.
 #![tactic(auto)]
 
-ghost use Rattle.std.specs.Prelude.{◌≡◌, length};
-ghost use Rattle.standard_input.specs.Reading.{Fits, answer_at};
+ghost use Rattle.std.specs.Prelude.{◌≡◌, ◌≤◌, length, take};
+ghost use Rattle.std.specs.Io.KnownBytes.{Consumes};
+ghost use Rattle.standard_input.specs.Reading.{Fits, HasRead, answer_at};
 
-use libc::STDIN_FILENO;
+use std::io;
+use std::io::Read;
 
 // So many bytes were read, or a read failed.
 #[derive(Clone, Copy)]
@@ -13,14 +15,16 @@ pub enum Input {
     Failed,
 }
 
-// Reads until the slice is full or the input ends, and answers how many bytes were read.
-pub fn read_input(input: &mut [u8]) -> Input
-    ensures { Fits result (length input.old) }
+// Reads until the slice is full or the input ends, and answers how many bytes were read. What a read
+// gives is answered as it is: one that a signal interrupts has failed.
+pub fn read_input<R: Read>(reader: &mut R, input: &mut [u8]) -> Input
+    ensures fits { Fits result (length input.old) }
+    ensures bytes { HasRead (R.remaining reader.old) (R.remaining reader.new) result input.new }
 {
     let mut n = 0;
     while n < input.len() {
-        let got = libc::read(STDIN_FILENO, &mut input[n..]);
-        let more = io::count(got, &input[n..]);
+        let got = reader.read(&mut input[n..]);
+        let more = got.unwrap_or(0);
         if more == 0 {
             return ended(got, n);
         }
@@ -29,12 +33,28 @@ pub fn read_input(input: &mut [u8]) -> Input
     Input::Read(n)
 }
 
-// What is answered once a read gave no byte, n bytes behind it: the read failed, where what it answered is negative, or the input ended there.
-fn ended(got: isize, n: usize) -> Input
+// What is answered once a read gave no byte, n bytes behind it: the read failed, where it answered an error, or the input ended there.
+fn ended(got: io::Result<usize>, n: usize) -> Input
     ensures { result ≡ answer_at got n }
 {
-    if got < 0 {
+    if let Err(_) = got {
         return Input::Failed;
     }
     Input::Read(n)
+}
+
+// Reads until the slice is full, the input ends or a read fails, and answers how many bytes were read.
+pub fn read_front<R: Read>(reader: &mut R, input: &mut [u8]) -> usize
+    ensures fits { result ≤ length input.new }
+    ensures bytes { Consumes (R.remaining reader.old) (R.remaining reader.new) (take result input.new) }
+{
+    let mut done = 0;
+    while done < input.len() {
+        let more = reader.read(&mut input[done..]).unwrap_or(0);
+        if more == 0 {
+            return done;
+        }
+        done += more;
+    }
+    done
 }

@@ -7,26 +7,28 @@ ghost use Rattle.std.specs.Prelude.{◌≤◌, length};
 
 use definitions::{Answer, Content};
 use equality::equal;
-use libc::{STDIN_FILENO, STDOUT_FILENO};
 use naive_profile::{is_profile, lowest_off};
 use naive_words::longest_at;
 use slices::wide;
+use standard_input::read_front;
+use std::io::Stdout;
 
 // More than any list has: what `told` answers where the library refuses.
 const NONE: usize = 4294967295;
 
-fn main() {
-    let mut input = io::buffer();
-    let n = io::read_full(STDIN_FILENO, &mut input);
-    run(&input[0..n]);
+// Reads at most 4,096 bytes. A write that fails is passed over.
+fn main(rt: HostRuntime) {
+    let mut input = [0u8; 4096];
+    let n = read_front(&mut rt.stdin(), &mut input);
+    run(rt.stdout(), &input[0..n]);
 }
 
 // Tries every line.
-fn run(input: &[u8]) {
+fn run(to: Stdout, input: &[u8]) {
     let mut i = 0;
     while i < input.len() {
         let e = end_of(input, i, 10);
-        try_line(&input[i..e]);
+        try_line(to, &input[i..e]);
         i = e + 1;
     }
 }
@@ -47,64 +49,66 @@ fn end_of(s: &[u8], i: usize, b: u8) -> usize
 }
 
 // Tries one line: its drive ends at the first space.
-fn try_line(line: &[u8]) {
-    print(line);
-    try_parts(line, end_of(line, 0, 32));
-    print(b"\n");
+fn try_line(to: Stdout, line: &[u8]) {
+    print(to, line);
+    try_parts(to, line, end_of(line, 0, 32));
+    print(to, b"\n");
 }
 
 // Tries the drive that ends at place e of a line and the motif behind the space there.
-fn try_parts(line: &[u8], e: usize) {
+fn try_parts(to: Stdout, line: &[u8], e: usize) {
     if e < line.len() {
         let from = e + 1;
         let drive = &line[0..e];
         let motif = &line[from..];
-        store(Content::Samples, drive, drive, motif);
-        cut(motif);
-        follow(drive, motif);
-        judge(drive);
+        store(to, Content::Samples, drive, drive, motif);
+        cut(to, motif);
+        follow(to, drive, motif);
+        judge(to, drive);
     }
 }
 
 // Rearranges a drive, of at most 63 samples, and stores its steps.
-fn follow<'a>(drive: &'a [u8], motif: &'a [u8]) {
+fn follow<'a>(to: Stdout, drive: &'a [u8], motif: &'a [u8]) {
     let mut steps = [7u8; 63];
-    let n = count(index::to_steps(drive, &mut steps), 63);
-    store(Content::Steps, &steps[0..n], drive, motif);
+    let n = count(to, index::to_steps(drive, &mut steps), 63);
+    store(to, Content::Steps, &steps[0..n], drive, motif);
 }
 
 // Stores the samples of a drive, or its steps, and tries the table.
-fn store<'a>(content: Content, stored: &'a [u8], drive: &'a [u8], motif: &'a [u8]) {
+fn store<'a>(to: Stdout, content: Content, stored: &'a [u8], drive: &'a [u8], motif: &'a [u8]) {
     let mut work = [7u32; 16384];
     let mut table = [7u32; 254];
-    let n = count(index::build(stored, 0, &mut work, &mut table), 254);
-    try_table(content, &table[0..n], drive, motif);
+    let n = count(to, index::build(stored, 0, &mut work, &mut table), 254);
+    try_table(to, content, &table[0..n], drive, motif);
 }
 
 // Tries a table of steps or of samples.
-fn try_table<'a>(content: Content, table: &'a [u32], drive: &'a [u8], motif: &'a [u8]) {
+fn try_table<'a>(to: Stdout, content: Content, table: &'a [u32], drive: &'a [u8], motif: &'a [u8]) {
     match content {
-        Content::Samples => try_samples(table, drive, motif),
+        Content::Samples => try_samples(to, table, drive, motif),
         Content::Steps => {
-            search(b" steps", Content::Steps, table, drive, motif);
+            search(to, b" steps", Content::Steps, table, drive, motif);
         }
     }
 }
 
 // Prints the number of rules, searches, measures and checks.
-fn try_samples<'a>(table: &'a [u32], drive: &'a [u8], motif: &'a [u8]) {
-    print_number(b" rules ", table.len() / 2);
+fn try_samples<'a>(to: Stdout, table: &'a [u32], drive: &'a [u8], motif: &'a [u8]) {
+    print_number(to, b" rules ", table.len() / 2);
     print_tests(
-        search(b" found", Content::Samples, table, drive, motif),
+        to,
+        search(to, b" found", Content::Samples, table, drive, motif),
         table,
         motif,
     );
-    measure(table, drive);
-    judge_table(table, drive);
+    measure(to, table, drive);
+    judge_table(to, table, drive);
 }
 
 // Prints what the library finds, and whether the naive side finds the same in the drive; answers how many tests the library counts.
 fn search<'a>(
+    to: Stdout,
     name: &[u8],
     content: Content,
     table: &'a [u32],
@@ -117,7 +121,7 @@ fn search<'a>(
     let m = scan(content, drive, motif, &mut scanned);
     let s = index::locate(table, content, motif, &mut work, &mut found);
     let a = s.answer;
-    print_compared(name, told(a), &found, m, &scanned);
+    print_compared(to, name, told(to, a), &found, m, &scanned);
     s.tests
 }
 
@@ -133,12 +137,12 @@ fn scan<'a>(content: Content, drive: &'a [u8], motif: &'a [u8], places: &mut [u3
 }
 
 // Prints how many tests the library counts, and whether the naive side counts as many. A search for an empty motif is refused.
-fn print_tests<'a>(tests: usize, table: &'a [u32], motif: &'a [u8]) {
+fn print_tests<'a>(to: Stdout, tests: usize, table: &'a [u32], motif: &'a [u8]) {
     if motif.len() == 0 {
         return;
     }
-    print_number(b" tests ", tests);
-    print_both(is_count(tests, table, motif));
+    print_number(to, b" tests ", tests);
+    print_both(to, is_count(tests, table, motif));
 }
 
 // Whether the naive side counts so many tests. A motif of this program has at most 63 samples.
@@ -158,29 +162,41 @@ fn is_count<'a>(tests: usize, table: &'a [u32], motif: &'a [u8]) -> bool {
 }
 
 // Measures the Lyndon array.
-fn measure<'a>(table: &'a [u32], drive: &'a [u8]) {
+fn measure<'a>(to: Stdout, table: &'a [u32], drive: &'a [u8]) {
     let mut work = [7u32; 16384];
     let mut lengths = [7u32; 64];
-    let n = told(index::lyndon_array(table, &mut work, &mut lengths));
-    print_lengths(n, &lengths, table, drive);
+    let n = told(to, index::lyndon_array(table, &mut work, &mut lengths));
+    print_lengths(to, n, &lengths, table, drive);
 }
 
 // Prints the Lyndon array, and whether single calls and the naive side have the same lengths.
-fn print_lengths<'a>(n: usize, lengths: &'a [u32; 64], table: &'a [u32], drive: &'a [u8]) {
-    print_list(b" lengths", lengths, n);
-    if all_agree(n, lengths, table, drive) {
-        print(b" by all");
+fn print_lengths<'a>(
+    to: Stdout,
+    n: usize,
+    lengths: &'a [u32; 64],
+    table: &'a [u32],
+    drive: &'a [u8],
+) {
+    print_list(to, b" lengths", lengths, n);
+    if all_agree(to, n, lengths, table, drive) {
+        print(to, b" by all");
     }
 }
 
 // Whether there are n lengths, each what a single call answers for its position, and what the naive side says.
-fn all_agree<'a>(n: usize, lengths: &'a [u32; 64], table: &'a [u32], drive: &'a [u8]) -> bool {
+fn all_agree<'a>(
+    to: Stdout,
+    n: usize,
+    lengths: &'a [u32; 64],
+    table: &'a [u32],
+    drive: &'a [u8],
+) -> bool {
     if 63 < drive.len() {
         return false;
     }
     let mut i = 0;
     while i < drive.len() {
-        if !agrees(wide(lengths[i]), i, table, drive) {
+        if !agrees(to, wide(lengths[i]), i, table, drive) {
             return false;
         }
         i += 1;
@@ -189,56 +205,67 @@ fn all_agree<'a>(n: usize, lengths: &'a [u32; 64], table: &'a [u32], drive: &'a 
 }
 
 // Whether n is what a single call answers for position i, and what the naive side says.
-fn agrees<'a>(n: usize, i: usize, table: &'a [u32], drive: &'a [u8]) -> bool
+fn agrees<'a>(to: Stdout, n: usize, i: usize, table: &'a [u32], drive: &'a [u8]) -> bool
     requires { i ≤ length drive.now }
 {
     let mut work = [7u32; 16384];
-    let k = told(index::lyndon_length(table, i, &mut work));
+    let k = told(to, index::lyndon_length(table, i, &mut work));
     (n == k) & (n == longest_at(drive, i))
 }
 
 // Prints the cuts of a motif, and whether the naive side lists the same.
-fn cut(motif: &[u8]) {
+fn cut(to: Stdout, motif: &[u8]) {
     if 63 < motif.len() {
         return;
     }
     let mut cuts = [7u32; 64];
     let mut listed = [7u32; 64];
-    let n = told(index::live_cuts(motif, &mut cuts));
+    let n = told(to, index::live_cuts(motif, &mut cuts));
     let m = naive_cuts::list(motif, &mut listed);
-    print_compared(b" cuts", n, &cuts, m, &listed);
+    print_compared(to, b" cuts", n, &cuts, m, &listed);
 }
 
 // Prints the list of n entries that the library has, and whether it is that of m entries that the naive side has.
-fn print_compared<'a>(name: &[u8], n: usize, list: &'a [u32; 64], m: usize, naive: &'a [u32; 64]) {
-    print_list(name, list, n);
-    print_both((n == m) & equal(list, naive));
+fn print_compared<'a>(
+    to: Stdout,
+    name: &[u8],
+    n: usize,
+    list: &'a [u32; 64],
+    m: usize,
+    naive: &'a [u32; 64],
+) {
+    print_list(to, name, list, n);
+    print_both(to, (n == m) & equal(list, naive));
 }
 
 // Builds a drive in the nine-heading profile.
-fn judge(drive: &[u8]) {
+fn judge(to: Stdout, drive: &[u8]) {
     let mut work = [7u32; 16384];
     let mut table = [7u32; 254];
-    print_judged(index::build_profile(drive, 0, &mut work, &mut table), drive);
+    print_judged(
+        to,
+        index::build_profile(drive, 0, &mut work, &mut table),
+        drive,
+    );
 }
 
 // Checks the table of a drive in that profile.
-fn judge_table<'a>(table: &'a [u32], drive: &'a [u8]) {
+fn judge_table<'a>(to: Stdout, table: &'a [u32], drive: &'a [u8]) {
     let mut work = [7u32; 16384];
-    print_judged(index::check_profile(table, &mut work), drive);
+    print_judged(to, index::check_profile(table, &mut work), drive);
 }
 
 // Prints what building or checking answers in the profile, and whether the naive side says the same of the drive.
-fn print_judged(a: Answer, drive: &[u8]) {
+fn print_judged(to: Stdout, a: Answer, drive: &[u8]) {
     match a {
         Answer::Refused(number, place) => {
-            print_number(b" refused ", wide(number));
-            print_number(b" at ", place);
-            print_both(is_refusal(number, place, drive));
+            print_number(to, b" refused ", wide(number));
+            print_number(to, b" at ", place);
+            print_both(to, is_refusal(number, place, drive));
         }
         Answer::Done(_) => {
-            print(b" profile");
-            print_both(is_profile(drive));
+            print(to, b" profile");
+            print_both(to, is_profile(drive));
         }
     }
 }
@@ -253,31 +280,31 @@ fn is_refusal(number: u32, place: usize, drive: &[u8]) -> bool {
 }
 
 // Prints bytes and the n entries of a list, where it has so many.
-fn print_list(name: &[u8], list: &[u32; 64], n: usize) {
+fn print_list(to: Stdout, name: &[u8], list: &[u32; 64], n: usize) {
     if 64 < n {
         return;
     }
-    print(name);
+    print(to, name);
     let mut i = 0;
     while i < n {
-        print_number(b" ", wide(list[i]));
+        print_number(to, b" ", wide(list[i]));
         i += 1;
     }
 }
 
 // What success gives, where there is room for so many; else 0.
-fn count(a: Answer, room: usize) -> usize
+fn count(to: Stdout, a: Answer, room: usize) -> usize
     ensures { result ≤ room }
 {
-    let n = told(a);
+    let n = told(to, a);
     if n <= room { n } else { 0 }
 }
 
 // What success gives; where the library refuses, its number is printed.
-fn told(a: Answer) -> usize {
+fn told(to: Stdout, a: Answer) -> usize {
     match a {
         Answer::Refused(number, _) => {
-            print_number(b" refused ", wide(number));
+            print_number(to, b" refused ", wide(number));
             NONE
         }
         Answer::Done(n) => n,
@@ -285,19 +312,19 @@ fn told(a: Answer) -> usize {
 }
 
 // Prints whether the naive side says the same.
-fn print_both(same: bool) {
+fn print_both(to: Stdout, same: bool) {
     if same {
-        print(b" by both");
+        print(to, b" by both");
     }
 }
 
 // Prints bytes and a number.
-fn print_number(name: &[u8], n: usize) {
-    print(name);
-    io::print_decimal(STDOUT_FILENO, n as u64);
+fn print_number(to: Stdout, name: &[u8], n: usize) {
+    print(to, name);
+    let _ = print!(to; "{n}");
 }
 
 // Prints bytes.
-fn print(s: &[u8]) {
-    io::write_all(STDOUT_FILENO, s);
+fn print(to: Stdout, s: &[u8]) {
+    let _ = to.write_all(s);
 }

@@ -1,6 +1,5 @@
 -- `sirbolta_check_profile` is `check_profile`.
 use mathlib.Core.Path.{◌∙◌, ap}
-use borrow.Author.Rules.{rules}
 use Rattle.definitions.specs.Replies.{reply_of}
 use Rattle.lists.specs.Serving.{said}
 use Rattle.capi.proofs.sirbolta_check_profile.Goals as goal

@@ -1,7 +1,6 @@
 -- `sirbolta_count` is `count`, of what the form says.
 use mathlib.Core.Path.{subst}
 use mathlib.Core.List.{[], ◌∷◌}
-use borrow.Author.Rules.{rules}
 use Rattle.definitions.specs.declared.Content.{Content}
 use Rattle.definitions.specs.Services.{Serves, sample_order, count_service}
 use Rattle.definitions.specs.Replies.{SearchReplies}

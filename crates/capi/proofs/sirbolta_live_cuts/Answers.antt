@@ -1,6 +1,5 @@
 -- `sirbolta_live_cuts` is `live_cuts`.
 use mathlib.Core.Path.{◌∙◌, ap}
-use borrow.Author.Rules.{rules}
 use Rattle.definitions.specs.Replies.{reply_of}
 use Rattle.lists.specs.Serving.{said}
 use Rattle.capi.proofs.sirbolta_live_cuts.Goals as goal

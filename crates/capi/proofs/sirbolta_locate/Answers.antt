@@ -1,7 +1,6 @@
 -- `sirbolta_locate` is `locate`, of what the form says.
 use mathlib.Core.Path.{subst}
 use mathlib.Core.List.{[], ◌∷◌}
-use borrow.Author.Rules.{rules}
 use Rattle.definitions.specs.declared.Content.{Content}
 use Rattle.definitions.specs.Services.{Serves, sample_order, locate_service}
 use Rattle.definitions.specs.Replies.{SearchReplies}

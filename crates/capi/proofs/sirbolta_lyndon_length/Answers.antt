@@ -1,6 +1,5 @@
 -- `sirbolta_lyndon_length` is `lyndon_length`.
 use mathlib.Core.Path.{◌∙◌, ap}
-use borrow.Author.Rules.{rules}
 use Rattle.definitions.specs.Replies.{reply_of}
 use Rattle.lists.specs.Serving.{said}
 use Rattle.capi.proofs.sirbolta_lyndon_length.Goals as goal

@@ -1,6 +1,5 @@
 -- `sirbolta_read` is `read`.
 use mathlib.Core.Path.{◌∙◌, ap}
-use borrow.Author.Rules.{rules}
 use Rattle.definitions.specs.Replies.{reply_of}
 use Rattle.lists.specs.Serving.{said}
 use Rattle.capi.proofs.sirbolta_read.Goals as goal

@@ -1,6 +1,5 @@
 -- `sirbolta_to_signed` is `to_signed`.
 use mathlib.Core.Path.{◌∙◌, ap}
-use borrow.Author.Rules.{rules}
 use Rattle.definitions.specs.Replies.{reply_of}
 use Rattle.lists.specs.Serving.{said}
 use Rattle.capi.proofs.sirbolta_to_signed.Goals as goal

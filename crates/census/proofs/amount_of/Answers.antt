@@ -1,5 +1,4 @@
 -- `amount_of` tells success from refusal.
-use borrow.Author.Rules.{rules}
 use Rattle.census.specs.Samples.{amount}
 use Rattle.census.proofs.amount_of.Goals as goal
 

@@ -4,7 +4,6 @@ use mathlib.Core.Bool.{false}
 use Prim.Native.Nat.{ℕ, ◌-◌, ◌≤◌, ◌<◌}
 use native.Mathlib.Omega.{arith}
 use lib.ListN.{length, take}
-use borrow.Author.Rules.{rules}
 use Rattle.definitions.specs.Table.{text_of}
 use Rattle.definitions.specs.Services.{sample_order, cleared, table_checks, odd_window}
 use Rattle.lists.specs.Decisions.{Passed}

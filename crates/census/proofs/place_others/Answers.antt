@@ -1,7 +1,7 @@
 -- `place_others` places a sample a turn. The invariant: all up to this one are placed, and n of them are not sample 0.
 use mathlib.Core.Path.{◌≡◌, refl, sym, ◌∙◌, ap, subst}
 use mathlib.Core.List.{List, [], ◌∷◌}
-use Prim.Native.Nat.{ℕ, suc, ◌+◌, ◌-◌, ◌≤◌}
+use Prim.Native.Nat.{ℕ, suc, ◌+◌, ◌≤◌}
 use native.Mathlib.Omega.{arith}
 use lib.ListN.{length}
 use Rattle.definitions.specs.Table.{text_of}
@@ -59,11 +59,11 @@ returns c =
     let t = c.args.table.now in
     let text = text_of sample_order t in
     let last : suc c.loop-sample.sample ≡ 256 = omega arith in
-    let (first, second, third) = (
-      c.loop-sample.invariant.3 ∙ ap (number_below text) last ∙ number_all text (accepted sample_order t (length c.args.work.now) c.requires.passes).1,
-      (c.loop-sample.invariant.1, subst (λ (k : ℕ). SoFar text k c.loop-sample.drive) last c.loop-sample.invariant.4),
-    ) in
-    record { result_value = first; work_unchanged = second; so_far = third }
+    record {
+      result_value = c.loop-sample.invariant.3 ∙ ap (number_below text) last ∙ number_all text (accepted sample_order t (length c.args.work.now) c.requires.passes).1;
+      work_unchanged = c.loop-sample.invariant.1;
+      so_far = subst (λ (k : ℕ). SoFar text k c.loop-sample.drive) last c.loop-sample.invariant.4;
+    }
 
 pub place_sample-requires : goal.place_sample-requires
 place_sample-requires c = c.loop-sample.invariant.2 ∙ c.requires.size

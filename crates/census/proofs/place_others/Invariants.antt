@@ -1,15 +1,10 @@
 -- `place_others` places a sample a turn. The invariant: all up to this one are placed, and n of them are not sample 0.
-use mathlib.Core.Path.{◌≡◌, refl, sym, ◌∙◌, ap, subst}
-use mathlib.Core.List.{List, [], ◌∷◌}
-use Prim.Native.Nat.{ℕ, suc, ◌+◌, ◌-◌, ◌≤◌}
-use native.Mathlib.Omega.{arith}
+use mathlib.Core.Path.{◌≡◌}
+use Prim.Native.Nat.{suc, ◌+◌, ◌-◌, ◌≤◌}
 use lib.ListN.{length}
 use Rattle.definitions.specs.Table.{text_of}
-use Rattle.definitions.specs.Occurrences.{occurrences}
-use Rattle.definitions.specs.Services.{sample_order, cleared, table_checks}
-use Rattle.lists.specs.Decisions.{Passed}
-use Rattle.census.specs.Samples.{SoFar, number_below, put_all, number_more, number_all, number_most, so_far_more, turn}
-use Rattle.census.specs.Accepted.{accepted}
+use Rattle.definitions.specs.Services.{sample_order}
+use Rattle.census.specs.Samples.{SoFar, number_below}
 use Rattle.census.proofs.place_others.Given as goal
 
 abbrev pub invariant-loop-sample : goal.invariant-loop-sample

@@ -4,7 +4,7 @@ use mathlib.Core.List.{List, [], ◌∷◌}
 use Prim.Native.Nat.{ℕ, ◌-◌}
 use native.Mathlib.Omega.{arith}
 use lib.ListN.{length, take, replicate}
-use borrow.Author.Rules.{rules}
+use Rattle.definitions.specs.declared.Answer.TheVariants.{Done}
 use Rattle.definitions.specs.Words.{placed}
 use Rattle.definitions.specs.Table.{text_of}
 use Rattle.definitions.specs.Occurrences.{occurrences}
@@ -14,7 +14,7 @@ use Rattle.run_counts.proofs.Listed.{listed_front, listed_fits}
 use Rattle.census.specs.Samples.{Tried, tried_refused, tried_done, done_tried, Places, put_all, occurs_below}
 use Rattle.census.specs.Accepted.{accepted}
 use Rattle.census.proofs.Locating.{located}
-use Rattle.census.proofs.place_sample.Goals.{After-locate-found, In-Done}
+use Rattle.census.proofs.place_sample.Goals.{After-locate-found}
 use Rattle.census.proofs.place_sample.Goals as goal
 
 abbrev zeros : List ℕ
@@ -35,26 +35,29 @@ pub returns-in_default : goal.returns-in_default
 returns-in_default c = tried_refused (told (goal.at.returns-in_default c).After-locate-found) c.in_default.is
 
 -- done: the table is accepted, and the places stand at the front of the array
-found : (c : In-Done)
+found : (c : After-locate-found) {n : ℕ} → c.locate-found.result.answer ≡ Done n
     → let a = c.args in
-    Passed (table_checks sample_order a.table.now (length a.work.now)) × (c.in-Done.n ≡ length (places (up c).After-locate-found)) × (c.locate-found.new.work ≡ cleared a.work.now) × (c.locate-found.new.res ≡ placed (places (up c).After-locate-found) zeros)
-found c = tried_done (told (up c).After-locate-found) c.in-Done.is
+    Passed (table_checks sample_order a.table.now (length a.work.now)) × (n ≡ length (places c)) × (c.locate-found.new.work ≡ cleared a.work.now) × (c.locate-found.new.res ≡ placed (places c) zeros)
+found c e = tried_done (told c) e
 
 pub slice_bounds-put_at-end : goal.slice_bounds-put_at-end
 slice_bounds-put_at-end c =
-    listed_fits (places (goal.at.slice_bounds-put_at-end c).After-locate-found) zeros c.locate-found.new.res c.in-Done.n (found (goal.at.slice_bounds-put_at-end c).In-Done).1 (found (goal.at.slice_bounds-put_at-end c).In-Done).3
+    let l = (goal.at.slice_bounds-put_at-end c).After-locate-found in
+    listed_fits (places l) zeros c.locate-found.new.res c.in-Done.n (found l c.in-Done.is).1 (found l c.in-Done.is).3
 
-front : (c : In-Done) → take (c.in-Done.n - 0) c.locate-found.new.res ≡ places (up c).After-locate-found
-front c =
-    listed_front (places (up c).After-locate-found) zeros c.locate-found.new.res c.in-Done.n (found c).1 (found c).3
+front : (c : After-locate-found) {n : ℕ} → c.locate-found.result.answer ≡ Done n → take (n - 0) c.locate-found.new.res ≡ places c
+front c {n} e = listed_front (places c) zeros c.locate-found.new.res n (found c e).1 (found c e).3
 
 pub put_at-requires : goal.put_at-requires
 put_at-requires c =
     let text = text_of sample_order c.args.table.now in
-    subst (λ (p : List ℕ). Places p c.args.drive.now) (sym (front (goal.at.put_at-requires c).In-Done))
-    (λ i m. omega (arith, c.requires, (occurs_below c.args.sample text i m).0, (accepted sample_order c.args.table.now (length c.args.work.now) (found (goal.at.put_at-requires c).In-Done).0).0))
+    let l = (goal.at.put_at-requires c).After-locate-found in
+    subst (λ (p : List ℕ). Places p c.args.drive.now) (sym (front l c.in-Done.is))
+    (λ i m. omega (arith, c.requires, (occurs_below c.args.sample text i m).0, (accepted sample_order c.args.table.now (length c.args.work.now) (found l c.in-Done.is).0).0))
 
 pub returns : goal.returns
 returns c =
     let a = c.args in
-    done_tried (found (goal.at.returns c).In-Done).0 (found (goal.at.returns c).In-Done).1 (found (goal.at.returns c).In-Done).2 (c.put_at.ensures ∙ ap (λ (x : List ℕ). put_all x a.sample a.drive.now) (front (goal.at.returns c).In-Done)) refl
+    let l = (goal.at.returns c).After-locate-found in
+    let f = found l c.in-Done.is in
+    done_tried f.0 f.1 f.2 (c.put_at.ensures ∙ ap (λ (x : List ℕ). put_all x a.sample a.drive.now) (front l c.in-Done.is)) refl

@@ -2,7 +2,6 @@
 use mathlib.Core.Path.{◌≡◌}
 use native.Mathlib.Omega.{arith}
 use lib.ListN.{length}
-use borrow.Author.Rules.{rules}
 use Rattle.definitions.specs.Table.{text_of}
 use Rattle.definitions.specs.Services.{sample_order}
 use Rattle.census.specs.Samples.{Begun, tried_refused, tried_done, number_below}
@@ -33,4 +32,4 @@ pub returns : goal.returns
 returns c =
     let e = c.place_others-m.ensures in
     all_read sample_order c.args.table.now c.args.work.now c.place_sample-a.new.work c.args.drive.now c.place_sample-a.new.drive c.requires c.place_sample-a.auto.work c.place_sample-a.auto.drive
-    c.place_others-m.result c.place_sample-a.ensures c.in-Done.is e.0 e.1.0 e.1.1
+    c.place_others-m.result c.place_sample-a.ensures c.in-Done.is e.result_value e.work_unchanged e.so_far

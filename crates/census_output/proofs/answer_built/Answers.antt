@@ -5,7 +5,6 @@ use Prim.Native.Nat.{ℕ}
 use native.Mathlib.Omega.{arith}
 use native.Mathlib.Nat.{mul-le-mul_right}
 use lib.ListN.{length}
-use borrow.Author.Rules.{rules}
 use Rattle.definitions.specs.Words.{placed}
 use Rattle.census_output.proofs.Stepping.{drive_bytes}
 use Rattle.census_output.proofs.Printing.{Listed, census_refused, census_done}

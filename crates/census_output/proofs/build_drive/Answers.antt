@@ -3,7 +3,6 @@ use mathlib.Core.Path.{◌∙◌}
 use Prim.Native.Nat.{◌-◌}
 use native.Mathlib.Omega.{arith}
 use lib.ListN.{length, take, drop}
-use borrow.Author.Rules.{rules}
 use Rattle.definitions.specs.Services.{sample_order}
 use Rattle.lists.specs.Lists.{tail_taken}
 use Rattle.census_output.proofs.Stepping.{drive_bytes, drive_built}

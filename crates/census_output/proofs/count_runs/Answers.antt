@@ -1,6 +1,5 @@
 -- `count_runs` takes the census of the drive, by the window that the input says.
 use native.Mathlib.Omega.{arith}
-use borrow.Author.Rules.{rules}
 use Rattle.definitions.specs.Services.{sample_order}
 use Rattle.definitions.specs.Programs.{census_drive}
 use Rattle.lyndon.specs.Sufficing.{stored}

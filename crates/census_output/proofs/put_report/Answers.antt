@@ -2,7 +2,6 @@
 use Prim.Native.Nat.{◌+◌, ◌≤◌}
 use native.Mathlib.Omega.{arith}
 use lib.ListN.{length, length-take, length-drop}
-use borrow.Author.Rules.{rules}
 use Rattle.lyndon.specs.Ranks.{slice_bytes}
 use Rattle.decimals.proofs.Digits.{line_most}
 use Rattle.census_output.proofs.Tallying.{tallies_most, report_stored}

@@ -1,9 +1,8 @@
 -- `sum` goes down from the last count. The invariant: the counts passed are summed, and each is a word.
 use mathlib.Core.Path.{◌≡◌, refl, ◌∙◌, ap}
-use Prim.Native.Nat.{ℕ, ◌-◌, ◌*◌, ◌≤◌, ◌<◌}
+use Prim.Native.Nat.{ℕ, ◌-◌, ◌<◌}
 use native.Mathlib.Omega.{arith}
 use lib.ListN.{length, drop}
-use borrow.Author.Rules.{rules}
 use Rattle.definitions.specs.Census.{total}
 use Rattle.census_output.proofs.Tallying.{total_none, total_more}
 use Rattle.census_output.proofs.sum.Goals.{After-wide-s}

@@ -1,6 +1,5 @@
 -- `all_agree` goes over the runs. The loop's invariant: those passed take at most eight bytes each.
 use Prim.Native.Nat.{◌-◌, ◌*◌, ◌≤◌}
-use native.Mathlib.Omega.{arith}
 use lib.ListN.{length}
 use Rattle.census_trials.proofs.all_agree.Given as goal
 

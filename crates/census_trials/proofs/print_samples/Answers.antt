@@ -1,8 +1,5 @@
 -- `print_samples` prints sample after sample. The loop's invariant: its place is inside the run.
-use Prim.Native.Nat.{◌-◌, ◌≤◌}
 use native.Mathlib.Omega.{arith}
-use lib.ListN.{length}
-use borrow.Author.Rules.{rules}
 use Rattle.census_trials.proofs.print_samples.Goals as goal
 
 pub overflow_cast-run : goal.overflow_cast-run

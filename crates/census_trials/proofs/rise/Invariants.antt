@@ -1,7 +1,5 @@
 -- `rise` goes over the runs from the second on. The loop's invariant: those passed take at most eight bytes each, and the run before is the last of them.
 use Prim.Native.Nat.{◌+◌, ◌-◌, ◌*◌, ◌≤◌, ◌<◌}
-use native.Mathlib.Omega.{arith}
-use lib.ListN.{length}
 use Rattle.census_trials.proofs.rise.Given as goal
 
 abbrev pub invariant-loop-i : goal.invariant-loop-i

@@ -1,7 +1,6 @@
 -- `sum` goes over the counts. The loop's invariant: each is a word, so that their sum is one of 64 bits.
-use Prim.Native.Nat.{◌-◌, ◌*◌, ◌≤◌, ◌<◌}
+use Prim.Native.Nat.{◌<◌}
 use native.Mathlib.Omega.{arith}
-use lib.ListN.{length}
 use Rattle.census_trials.proofs.sum.Goals.{After-wide-s}
 use Rattle.census_trials.proofs.sum.Goals as goal
 

@@ -1,6 +1,5 @@
 -- `sum` goes over the counts. The loop's invariant: each is a word, so that their sum is one of 64 bits.
-use Prim.Native.Nat.{◌-◌, ◌*◌, ◌≤◌, ◌<◌}
-use native.Mathlib.Omega.{arith}
+use Prim.Native.Nat.{◌-◌, ◌*◌, ◌≤◌}
 use lib.ListN.{length}
 use Rattle.census_trials.proofs.sum.Given as goal
 

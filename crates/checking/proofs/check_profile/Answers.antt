@@ -36,7 +36,10 @@ clear_front-requires c = (succeeded (goal.at.clear_front-requires c).In-Done).lo
 judged : (q : After-profile_loaded-p) → let text = text_of sample_order q.args.table.now in
     q.profile_loaded-p.result ≡ answered (profile_checks true text) (length text)
 unfolding ready
-judged q = let x = succeeded (up q).In-Done in q.profile_loaded-p.ensures (ready x.loads) refl x.rules
+judged q =
+    let a = q.args in
+    let x : Succeeded sample_order a.table.now a.work.now q.admit-opened.new.work q.in-Done.rules = opening_done q.admit-opened.ensures q.in-Done.is in
+    q.profile_loaded-p.ensures (ready x.loads) refl x.rules
 
 pub returns-in_default-p : goal.returns-in_default-p
 unfolding check_profile_service profile_checks outcome_of

@@ -1,13 +1,8 @@
 -- `direction` gives the name of each number; what is left for the last arm is 8.
 use mathlib.Core.Path.{◌≡◌, sym, ap}
-use Prim.Native.Nat.{ℕ, ◌+◌, ◌≤◌}
 use native.Mathlib.Omega.{arith}
 use Rattle.definitions.specs.Programs.{heading_name}
 use Rattle.desk_output.proofs.direction.Goals as goal
-
--- not n, so above it
-above : (n h : ℕ) → n ≤ h → (h ≡ n → ⊥) → n + 1 ≤ h
-above n h l e = omega arith
 
 pub returns-in-1 : goal.returns-in-1
 unfolding heading_name
@@ -41,10 +36,5 @@ pub returns-in_default : goal.returns-in_default
 unfolding heading_name
 returns-in_default c =
     let h = c.args.heading in
-    let r = c.in_default.rest in
-    let two = above 1 h c.requires.0 r.0.0.0.0.0.0.1 in
-    let four = above 3 h (above 2 h two r.0.0.0.0.0.1) r.0.0.0.0.1 in
-    let six = above 5 h (above 4 h four r.0.0.0.1) r.0.0.1 in
-    let eight = above 7 h (above 6 h six r.0.1) r.1 in
-    let e : h ≡ 8 = omega (arith, eight, c.requires.1) in
+    let e : h ≡ 8 = omega arith in
     (sym (ap heading_name e), omega arith)

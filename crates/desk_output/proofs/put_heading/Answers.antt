@@ -4,7 +4,6 @@ use mathlib.Core.List.{List, [], ◌∷◌}
 use Prim.Native.Nat.{ℕ, ◌-◌, ◌<◌}
 use native.Mathlib.Omega.{arith}
 use lib.ListN.{length, take, length-append}
-use borrow.Author.Rules.{rules}
 use Rattle.definitions.specs.Words.{placed}
 use Rattle.definitions.specs.Programs.{line, heading_name}
 use Rattle.desk_output.proofs.Names.{name_most}

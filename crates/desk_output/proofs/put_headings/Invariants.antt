@@ -1,14 +1,11 @@
 -- `put_headings` writes a line a turn, in the rest of the slice. The invariant: the lines of the headings passed stand at the front.
-use mathlib.Core.Path.{◌≡◌, refl}
-use Prim.Native.Nat.{◌+◌, ◌-◌, ◌≤◌}
-use native.Mathlib.Omega.{arith}
-use lib.ListN.{length, get_or, length-take, length-drop}
+use mathlib.Core.Path.{◌≡◌}
+use Prim.Native.Nat.{◌-◌, ◌≤◌}
+use lib.ListN.{length}
 use Rattle.definitions.specs.Programs.{heading_name}
 use Rattle.lists.specs.Lists.{Fronted}
 use Rattle.lines.specs.Turns.{turns}
-use Rattle.lines.proofs.Turns.{turns_none, turns_room, turns_stored, turns_all}
-use Rattle.lines.proofs.Lines.{line_at, lines_turns}
-use Rattle.desk_output.proofs.Names.{name_most}
+use Rattle.lines.proofs.Lines.{line_at}
 use Rattle.desk_output.proofs.put_headings.Given as goal
 
 abbrev pub invariant-loop-i : goal.invariant-loop-i

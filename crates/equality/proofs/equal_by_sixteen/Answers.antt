@@ -1,8 +1,8 @@
 -- `equal_by_sixteen` compares block after block. The loop's invariant: the blocks passed are the same. Then the last sixteen words decide (`last_decides`).
 use mathlib.Core.Path.{◌≡◌, refl, sym, ◌∙◌, subst}
-use Prim.Native.Nat.{ℕ, ◌+◌, ◌-◌, ◌*◌, ◌/◌, ◌≤◌}
+use Prim.Native.Nat.{ℕ, ◌+◌, ◌-◌, ◌*◌}
 use native.Mathlib.Omega.{arith}
-use lib.ListN.{length, take, drop, length-take, length-drop}
+use lib.ListN.{length, take, length-take, length-drop}
 use borrow.Author.Tests.{not-true, not-false}
 use Rattle.lists.specs.Sameness.{part_unequal, block_equal, parts_equal, last_decides}
 use Rattle.equality.proofs.equal_by_sixteen.Goals as goal

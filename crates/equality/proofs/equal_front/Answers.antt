@@ -1,11 +1,10 @@
 -- `equal_front` decides sameness of two fronts. The loop's invariant: the words passed agree, so the rest decides.
 use mathlib.Core.Path.{◌≡◌, sym, ◌∙◌, refl}
 use mathlib.Core.List.{List}
-use Prim.Native.Nat.{ℕ, ◌-◌, ◌≤◌, ◌<◌}
+use Prim.Native.Nat.{ℕ, ◌<◌}
 use native.Mathlib.Omega.{arith}
-use lib.ListN.{take, drop, get_or}
+use lib.ListN.{take, get_or}
 use lib.Seq.{get_or-take, length-take-le}
-use Rattle.definitions.specs.Words.{same}
 use Rattle.lists.specs.Sameness.{agree, differ, ended}
 use Rattle.equality.proofs.equal_front.Goals as goal
 

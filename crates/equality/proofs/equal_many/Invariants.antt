@@ -1,11 +1,9 @@
 -- `equal_many` decides sameness. The loop's invariant: the slices are the same where the words passed agree and the rest does.
-use mathlib.Core.Path.{◌≡◌, sym, ◌∙◌, refl}
+use mathlib.Core.Path.{◌≡◌}
 use mathlib.Core.Bool.{◌&&◌}
 use Prim.Native.Nat.{◌≤◌, ◌-◌}
-use native.Mathlib.Omega.{arith}
 use lib.ListN.{length, drop}
 use Rattle.definitions.specs.Words.{same}
-use Rattle.lists.specs.Sameness.{passed, all_passed}
 use Rattle.equality.proofs.equal_many.Given as goal
 
 abbrev pub invariant-loop-i : goal.invariant-loop-i

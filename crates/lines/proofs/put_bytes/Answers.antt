@@ -1,9 +1,7 @@
 -- `put_bytes` copies. The invariant: the bytes passed stand at the front.
-use mathlib.Core.Path.{◌≡◌, sym, ◌∙◌, refl}
-use Prim.Native.Nat.{◌≤◌, ◌-◌}
+use mathlib.Core.Path.{sym, ◌∙◌, refl}
 use native.Mathlib.Omega.{arith}
-use lib.ListN.{length, take, get_or, length-set}
-use Rattle.definitions.specs.Words.{placed}
+use lib.ListN.{get_or, length-set}
 use Rattle.lists.specs.Lists.{placed_none}
 use Rattle.slices.proofs.Fronts.{taken_more, taken_all}
 use Rattle.lines.proofs.put_bytes.Goals as goal

@@ -1,11 +1,8 @@
 -- `put_bytes` copies. The invariant: the bytes passed stand at the front.
-use mathlib.Core.Path.{◌≡◌, sym, ◌∙◌, refl}
+use mathlib.Core.Path.{◌≡◌}
 use Prim.Native.Nat.{◌≤◌, ◌-◌}
-use native.Mathlib.Omega.{arith}
-use lib.ListN.{length, take, get_or, length-set}
+use lib.ListN.{length, take}
 use Rattle.definitions.specs.Words.{placed}
-use Rattle.lists.specs.Lists.{placed_none}
-use Rattle.slices.proofs.Fronts.{taken_more, taken_all}
 use Rattle.lines.proofs.put_bytes.Given as goal
 
 abbrev pub invariant-loop-i : goal.invariant-loop-i

@@ -1,12 +1,10 @@
 -- `put_decimal_lines` writes a line a turn, in the rest of the slice. The invariant: the lines of the numbers passed stand at the front.
-use mathlib.Core.Path.{◌≡◌, refl, ap}
-use Prim.Native.Nat.{ℕ, ◌+◌, ◌-◌, ◌≤◌}
+use mathlib.Core.Path.{refl, ap}
+use Prim.Native.Nat.{ℕ, ◌+◌, ◌≤◌}
 use native.Mathlib.Omega.{arith}
 use lib.ListN.{length, get_or, length-take, length-drop}
 use Rattle.definitions.specs.Programs.{decimal, line}
-use Rattle.lists.specs.Lists.{Fronted}
 use Rattle.decimals.proofs.Digits.{line_most}
-use Rattle.lines.specs.Turns.{turns}
 use Rattle.lines.proofs.Turns.{turns_none, turns_room, turns_stored, turns_all}
 use Rattle.lines.proofs.Lines.{line_at, lines_turns}
 use Rattle.lines.proofs.put_decimal_lines.Goals.{In-loop-i}

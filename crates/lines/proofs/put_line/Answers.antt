@@ -1,5 +1,4 @@
 -- `put_line` writes bytes, and behind them the one that ends a line.
-use borrow.Author.Rules.{rules}
 use Rattle.decimals.proofs.Digits.{line_stored}
 use Rattle.lines.proofs.put_line.Goals as goal
 

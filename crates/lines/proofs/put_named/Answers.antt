@@ -1,6 +1,5 @@
 -- `put_named` writes a name, and in the rest of the slice the line of a number.
 use native.Mathlib.Omega.{arith}
-use borrow.Author.Rules.{rules}
 use Rattle.decimals.proofs.Digits.{line_most}
 use Rattle.lines.proofs.Lines.{named_stored}
 use Rattle.lines.proofs.put_named.Goals as goal

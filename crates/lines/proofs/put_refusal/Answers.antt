@@ -3,7 +3,6 @@ use mathlib.Core.Path.{◌≡◌, sym, ◌∙◌, ap}
 use mathlib.Core.List.{List}
 use Prim.Native.Nat.{ℕ}
 use lib.ListN.{length}
-use borrow.Author.Rules.{rules}
 use Rattle.definitions.specs.Words.{placed}
 use Rattle.definitions.specs.Programs.{named, refused_name}
 use Rattle.lists.specs.Lists.{placed_none}

@@ -7,7 +7,6 @@ use lib.ListN.{length}
 use Rattle.listing.specs.Listing.{placed_from}
 use Rattle.listing.proofs.Drives.{drive_cut_none, drive_cut_one}
 use Rattle.listing.proofs.Entries.{from_none}
-use borrow.Author.Rules.{rules}
 use Rattle.listing.proofs.list_cut.Goals as goal
 
 pub returns-then-c-eq0 : goal.returns-then-c-eq0

@@ -7,7 +7,6 @@ use lib.ListN.{length}
 use Rattle.listing.specs.Listing.{placed_from}
 use Rattle.listing.proofs.Drives.{drive_before, drive_there}
 use Rattle.listing.proofs.Entries.{from_none, from_one_lem}
-use borrow.Author.Rules.{rules}
 use Rattle.listing.proofs.list_one.Goals as goal
 
 pub returns-then-place-first : goal.returns-then-place-first

@@ -1,5 +1,4 @@
 -- `drive_start` steps over byte 10, where there is one.
-use borrow.Author.Rules.{rules}
 use Rattle.motif_input.proofs.Splitting.{behind_ten, at_end}
 use Rattle.motif_input.proofs.drive_start.Goals as goal
 

@@ -1,10 +1,8 @@
 -- `motif_length` looks for byte 10. The invariant: the bytes passed belong to the motif, so the rest decides.
 use mathlib.Core.Path.{◌≡◌}
 use Prim.Native.Nat.{◌+◌, ◌-◌, ◌≤◌}
-use native.Mathlib.Omega.{arith}
 use lib.ListN.{length, drop}
 use Rattle.definitions.specs.Programs.{motif_of}
-use Rattle.motif_input.proofs.Splitting.{ends_here, goes_on, ends_last}
 use Rattle.motif_input.proofs.motif_length.Given as goal
 
 abbrev pub invariant-loop-i : goal.invariant-loop-i

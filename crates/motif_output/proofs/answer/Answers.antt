@@ -4,7 +4,6 @@ use mathlib.Core.List.{List}
 use Prim.Native.Nat.{ℕ}
 use native.Mathlib.Omega.{arith}
 use lib.ListN.{length}
-use borrow.Author.Rules.{rules}
 use Rattle.definitions.specs.Words.{placed}
 use Rattle.motif_output.proofs.Printing.{drive_refused, drive_done}
 use Rattle.motif_output.proofs.answer.Goals as goal

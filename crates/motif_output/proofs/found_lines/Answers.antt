@@ -1,7 +1,6 @@
 -- `found_lines` writes the number of positions, and in the rest of the slice the positions.
 use native.Mathlib.Omega.{arith}
 use lib.ListN.{length, length-take, length-drop}
-use borrow.Author.Rules.{rules}
 use Rattle.definitions.specs.Programs.{decimal, named, lines_of, found_name, found_lines}
 use Rattle.lines.proofs.Turns.{both_stored}
 use Rattle.lines.proofs.Lines.{named_most, decimals_most}

@@ -2,7 +2,6 @@
 use Prim.Native.Nat.{◌-◌}
 use native.Mathlib.Omega.{arith}
 use lib.ListN.{take}
-use borrow.Author.Rules.{rules}
 use Rattle.definitions.specs.Services.{sample_order}
 use Rattle.definitions.specs.Programs.{drive_of}
 use Rattle.lyndon.specs.Sufficing.{stored}

@@ -1,7 +1,6 @@
 -- `rules_and_found` writes the number of rules, and in the rest of the slice what was found.
 use native.Mathlib.Omega.{arith}
 use lib.ListN.{length-take, length-drop}
-use borrow.Author.Rules.{rules}
 use Rattle.definitions.specs.Programs.{named, rules_name, found_lines}
 use Rattle.lines.proofs.Turns.{both_stored}
 use Rattle.lines.proofs.Lines.{named_most}

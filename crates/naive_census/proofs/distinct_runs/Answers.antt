@@ -1,12 +1,10 @@
 -- `distinct_runs` goes over the places at which there is a run. The invariant: the runs counted, and those that are left from the place reached on, are all.
-use mathlib.Core.Path.{◌≡◌}
-use Prim.Native.Nat.{◌+◌, ◌-◌, ◌≤◌}
+use Prim.Native.Nat.{◌+◌, ◌≤◌}
 use native.Mathlib.Omega.{arith}
 use lib.ListN.{length}
-use borrow.Author.Tests.{not-true, not-false}
 use Rattle.definitions.specs.Services.{sample_order}
 use Rattle.lyndon.specs.Ranks.{slice_bytes}
-use Rattle.naive_census.proofs.Standing.{left, left_all, left_none, next_later, next_counted}
+use Rattle.naive_census.proofs.Standing.{left_all, left_none, next_later, next_counted}
 use Rattle.naive_census.proofs.distinct_runs.Goals.{then-not-stands_later, else-not-stands_later}
 use Rattle.naive_census.proofs.distinct_runs.Goals as goal
 
@@ -23,8 +21,8 @@ loop-i-preserved c =
     let some = c.requires.1 in
     let e = c.stands_later.ensures in
     elim c.if-not-stands_later.branch [
-      then-not-stands_later w ↦ (omega arith, omega arith, omega (arith, c.loop-i.invariant.2, next_counted sample_order q drive i some h bytes _ e w.if-not-stands_later.true))
-    | else-not-stands_later w ↦ (omega arith, omega arith, omega (arith, c.loop-i.invariant.2, next_later sample_order q drive i some h bytes _ e w.if-not-stands_later.false))
+      | then-not-stands_later w ↦ (omega arith, omega arith, omega (arith, c.loop-i.invariant.2, next_counted sample_order q drive i some h bytes _ e w.if-not-stands_later.true))
+      | else-not-stands_later w ↦ (omega arith, omega arith, omega (arith, c.loop-i.invariant.2, next_later sample_order q drive i some h bytes _ e w.if-not-stands_later.false))
     ]
 
 pub returns : goal.returns

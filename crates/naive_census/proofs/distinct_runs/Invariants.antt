@@ -1,13 +1,9 @@
 -- `distinct_runs` goes over the places at which there is a run. The invariant: the runs counted, and those that are left from the place reached on, are all.
 use mathlib.Core.Path.{◌≡◌}
-use mathlib.Core.Logic.{⊎_elim}
 use Prim.Native.Nat.{◌+◌, ◌-◌, ◌≤◌}
-use native.Mathlib.Omega.{arith}
 use lib.ListN.{length}
-use borrow.Author.Tests.{not-true, not-false}
 use Rattle.definitions.specs.Services.{sample_order}
-use Rattle.lyndon.specs.Ranks.{slice_bytes}
-use Rattle.naive_census.proofs.Standing.{left, left_all, left_none, next_later, next_counted}
+use Rattle.naive_census.proofs.Standing.{left}
 use Rattle.naive_census.proofs.distinct_runs.Given as goal
 
 abbrev pub invariant-loop-i : goal.invariant-loop-i

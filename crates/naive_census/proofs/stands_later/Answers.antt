@@ -5,7 +5,6 @@ use Prim.Native.Nat.{ℕ, ◌+◌, ◌-◌}
 use native.Mathlib.Omega.{arith}
 use lib.ListN.{length, take, drop}
 use lib.Dec.{ltb}
-use borrow.Author.Rules.{rules}
 use Rattle.definitions.specs.Occurrences.{occurrences}
 use Rattle.lists.specs.Lists.{tail_taken}
 use Rattle.naive_census.proofs.stands_later.Goals as goal

@@ -1,15 +1,13 @@
 -- `is_live` holds the tail beside the tail of cut after cut. The invariant: it passes beside each that was tried.
-use mathlib.Core.Path.{◌≡◌, sym, ◌∙◌}
+use mathlib.Core.Path.{◌≡◌}
 use mathlib.Core.Bool.{true}
 use mathlib.Core.List.{map}
 use Prim.Native.Nat.{◌-◌, ◌≤◌}
-use native.Mathlib.Omega.{arith}
 use lib.ListN.{length}
-use borrow.Author.Tests.{not-true, not-false}
 use Rattle.definitions.specs.Table.{rank_of}
 use Rattle.definitions.specs.Services.{sample_order}
-use Rattle.naive_words.proofs.Trying.{from_one, none_tried, one_more_tried}
-use Rattle.naive_cuts.proofs.Cutting.{passes_beside, beside, tail_greater, all_beside}
+use Rattle.naive_words.proofs.Trying.{from_one}
+use Rattle.naive_cuts.proofs.Cutting.{passes_beside}
 use Rattle.naive_cuts.proofs.is_live.Given as goal
 
 abbrev pub invariant-loop-d : goal.invariant-loop-d

@@ -3,7 +3,6 @@ use mathlib.Core.Path.{sym, ◌∙◌}
 use Prim.Native.Nat.{◌-◌}
 use native.Mathlib.Omega.{arith}
 use lib.ListN.{length}
-use borrow.Author.Rules.{rules}
 use Rattle.definitions.specs.Table.{rank_of}
 use Rattle.definitions.specs.Services.{sample_order}
 use Rattle.naive_cuts.proofs.Cutting.{too_short, front_greater, front_decides}

@@ -1,14 +1,11 @@
 -- `list` tries every cut. The invariant: the cuts passed that are listed stand at the front of the slice.
-use mathlib.Core.Path.{◌≡◌, refl, ◌∙◌}
-use mathlib.Core.List.{List, map}
-use Prim.Native.Nat.{ℕ, ◌+◌, ◌-◌, ◌≤◌}
+use mathlib.Core.Path.{refl, ◌∙◌}
+use mathlib.Core.List.{map}
 use native.Mathlib.Omega.{arith}
-use lib.ListN.{length}
-use Rattle.definitions.specs.Words.{below}
 use Rattle.definitions.specs.Table.{rank_of}
 use Rattle.definitions.specs.Occurrences.{is_listed}
 use Rattle.definitions.specs.Services.{sample_order}
-use Rattle.lists.specs.Lists.{Fronted, fronted_as}
+use Rattle.lists.specs.Lists.{fronted_as}
 use Rattle.lists.specs.Numbers.{below_length}
 use Rattle.naive.proofs.Noting.{one_more}
 use Rattle.naive_cuts.proofs.Cutting.{none_listed, all_listed}

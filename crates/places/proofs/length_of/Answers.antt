@@ -3,7 +3,6 @@ use mathlib.Core.Path.{◌≡◌, sym, ◌∙◌, ap}
 use Prim.Native.Nat.{◌+◌, ◌≤◌, ◌<◌}
 use native.Mathlib.Omega.{arith}
 use lib.ListN.{length}
-use borrow.Author.Rules.{rules}
 use Rattle.layout.specs.Layout.{length_in}
 use Rattle.decoding.specs.declared.Rule.TheVariants.{Pair}
 use Rattle.decoding.specs.Decoding.{rule_in}
@@ -23,12 +22,11 @@ pair_known : (c : In-Pair) → let a = c.args in
     let v = c.in-Pair.right in
     (rule_in a.work.now a.r ≡ Pair u v) × (u < 2304) × (v < 2304) × (length_in a.work.now u + length_in a.work.now v ≤ 2048)
 pair_known c =
-    let (q, e) = c.rule-1.given in
     let a = c.args in
     let (g, h, k) = c.requires in
-    let f = sym c.rule_in-rule.ensures ∙ e in
-    let p = kept_pair k.kept a.r h q.0 q.1.0 f in
-    let (sum, short) = pair_length g a.work.now a.r k h q.0 q.1.0 p in
+    let f = sym c.rule_in-rule.ensures ∙ c.in-Pair.is in
+    let p = kept_pair k.kept a.r h c.in-Pair.left c.in-Pair.right f in
+    let (sum, short) = pair_length g a.work.now a.r k h c.in-Pair.left c.in-Pair.right p in
     (f, omega (arith, p.left, h, k.most), omega (arith, p.right, h, k.most), omega (arith, sum, short))
 
 pub bounds-work-left : goal.bounds-work-left
@@ -40,8 +38,7 @@ bounds-work-right c = omega (arith, (pair_known (goal.at.bounds-work-right c).In
 pub returns-in-Pair : goal.returns-in-Pair
 returns-in-Pair c =
     let a = c.args in
-    let (q, e) = c.rule-1.given in
-    λ g h k. (pair_length g a.work.now a.r k h q.0 q.1.0 (kept_pair k.kept a.r h q.0 q.1.0 (pair_known (goal.at.returns-in-Pair c).In-Pair).0)).0
+    λ g h k. (pair_length g a.work.now a.r k h c.in-Pair.left c.in-Pair.right (kept_pair k.kept a.r h c.in-Pair.left c.in-Pair.right (pair_known (goal.at.returns-in-Pair c).In-Pair).0)).0
 
 pub overflow_add-result : goal.overflow_add-result
 overflow_add-result c = omega (arith, (pair_known (goal.at.overflow_add-result c).In-Pair).1)

@@ -1,9 +1,8 @@
 -- `place_all` goes from the last rule down. The invariant: the halves of the rules from r on have their places, whatever is loaded.
 use mathlib.Core.Path.{◌≡◌, refl, sym, ◌∙◌, subst}
-use Prim.Native.Nat.{ℕ, ◌+◌, ◌-◌, ◌≤◌}
+use Prim.Native.Nat.{ℕ, ◌+◌, ◌-◌}
 use native.Mathlib.Omega.{arith}
-use lib.ListN.{length}
-use Rattle.places.specs.Passes.{Contents, rules_in, Placing}
+use Rattle.places.specs.Passes.{Placing}
 use Rattle.places.proofs.place_all.Goals as goal
 
 pub place_halves-requires : goal.place_halves-requires

@@ -1,7 +1,6 @@
 -- `place_all` goes from the last rule down. The invariant: the halves of the rules from r on have their places, whatever is loaded.
-use mathlib.Core.Path.{◌≡◌, refl, sym, ◌∙◌, subst}
-use Prim.Native.Nat.{ℕ, ◌+◌, ◌-◌, ◌≤◌}
-use native.Mathlib.Omega.{arith}
+use mathlib.Core.Path.{◌≡◌}
+use Prim.Native.Nat.{◌≤◌}
 use lib.ListN.{length}
 use Rattle.places.specs.Passes.{Contents, rules_in, Placing}
 use Rattle.places.proofs.place_all.Given as goal

@@ -4,7 +4,6 @@ use mathlib.Core.List.{List}
 use Prim.Native.Nat.{ℕ, ◌+◌, ◌≤◌, ◌<◌}
 use native.Mathlib.Omega.{arith}
 use lib.ListN.{set}
-use borrow.Author.Rules.{rules}
 use Rattle.layout.specs.Layout.{PLACES, length_in, place_in}
 use Rattle.decoding.specs.declared.Rule.TheVariants.{Pair}
 use Rattle.decoding.specs.Decoding.{rule_in}

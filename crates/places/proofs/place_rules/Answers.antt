@@ -1,7 +1,6 @@
 -- `place_rules` sizes all rules, places the root at the front of the marked text, which it spells, and then the halves of all rules.
 use Prim.Native.Nat.{◌≤◌, ◌<◌}
 use native.Mathlib.Omega.{arith}
-use borrow.Author.Rules.{rules}
 use Rattle.lyndon.specs.Stored.{rule_range}
 use Rattle.places.proofs.Sizes.{size_start}
 use Rattle.places.proofs.Starts.{place_start, place_end}

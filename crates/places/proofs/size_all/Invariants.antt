@@ -1,10 +1,8 @@
 -- `size_all` goes from the first rule up. The invariant: the rules before r have their lengths, whatever is loaded.
-use mathlib.Core.Path.{◌≡◌, refl, ◌∙◌, subst}
-use Prim.Native.Nat.{ℕ, ◌-◌, ◌≤◌, ◌<◌}
-use native.Mathlib.Omega.{arith}
+use mathlib.Core.Path.{◌≡◌}
+use Prim.Native.Nat.{◌-◌, ◌≤◌}
 use lib.ListN.{length}
 use Rattle.places.specs.Passes.{Contents, rules_in, Sizing}
-use Rattle.places.proofs.Sizes.{size_more}
 use Rattle.places.proofs.size_all.Given as goal
 
 abbrev pub invariant-loop-r : goal.invariant-loop-r

@@ -4,7 +4,6 @@ use mathlib.Core.List.{List, map}
 use Prim.Native.Nat.{ℕ, ◌-◌}
 use native.Mathlib.Omega.{arith}
 use lib.ListN.{length, take, replicate, length-map}
-use borrow.Author.Rules.{rules}
 use Rattle.definitions.specs.Services.{sample_order}
 use Rattle.definitions.specs.Census.{runs_of, joined}
 use Rattle.lyndon.specs.Ranks.{Bytes, slice_bytes}

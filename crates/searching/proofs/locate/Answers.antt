@@ -14,7 +14,7 @@ use Rattle.lists.specs.Serving.{grouped, refused_front, passed}
 use Rattle.checks.proofs.Patterns.{search_keeps, passed_search}
 use Rattle.results.proofs.Answers.{search_refuses}
 use Rattle.opening.proofs.Services.{ready, opened_table, opening_refused, Succeeded, opening_done, opened_ready, opening_lent}
-use Rattle.searching.proofs.locate.Goals.{After-admit-a, In-Done-a-2}
+use Rattle.searching.proofs.locate.Goals.{After-admit-a, In-Done-a}
 use Rattle.searching.proofs.locate.Goals as goal
 
 pub returns-in_default : goal.returns-in_default
@@ -39,29 +39,29 @@ returns-in_default-a c =
     (passed (accepted (goal.at.returns-in_default-a c).After-admit-a) (opening_refused _ c.admit-a.ensures c.in_default-a.is (search_refuses c.admit-a.result c.with_tests-in_default-a.result c.with_tests-in_default-a.ensures) (λ d. refl)))
 
 -- and the table opened
-succeeded : (k : In-Done-a-2) → let a = k.args in
+succeeded : (k : In-Done-a) → let a = k.args in
     Succeeded sample_order a.table.now a.work.now k.admit-a.new.work k.in-Done-a.rules
 succeeded k = opening_done k.admit-a.ensures k.in-Done-a.is
 
 pub slice_bounds-locate_loaded-end : goal.slice_bounds-locate_loaded-end
-slice_bounds-locate_loaded-end c = omega (arith, (succeeded (goal.at.slice_bounds-locate_loaded-end c).In-Done-a-2).loads.long)
+slice_bounds-locate_loaded-end c = omega (arith, (succeeded (goal.at.slice_bounds-locate_loaded-end c).In-Done-a).loads.long)
 
 pub locate_loaded-b-requires : goal.locate_loaded-b-requires
 locate_loaded-b-requires c =
     let a = c.args in
     let (some, short) = passed_search a.content a.pattern.now (accepted (goal.at.locate_loaded-b-requires c).After-admit-a) in
-    let (loaded, ordered, size) = opened_ready (succeeded (goal.at.locate_loaded-b-requires c).In-Done-a-2) in
+    let (loaded, ordered, size) = opened_ready (succeeded (goal.at.locate_loaded-b-requires c).In-Done-a) in
     record { ready = loaded; ordered = ordered; size = size; filled = some; short = short }
 
 pub clear_front-requires : goal.clear_front-requires
-clear_front-requires c = omega (arith, (succeeded (goal.at.clear_front-requires c).In-Done-a-2).loads.long)
+clear_front-requires c = omega (arith, (succeeded (goal.at.clear_front-requires c).In-Done-a).loads.long)
 
 pub returns : goal.returns
 unfolding locate_service ready
 returns c =
     let a = c.args in
     let p = a.pattern.now in
-    let x = succeeded (goal.at.returns c).In-Done-a-2 in
+    let x = succeeded (goal.at.returns c).In-Done-a in
     grouped (search_checks a.content p) _ _
     (passed (accepted (goal.at.returns c).After-admit-a)
     (opening_lent x (refl, refl) c.locate_loaded-b.new.work c.locate_loaded-b.auto.work c.clear_front.ensures

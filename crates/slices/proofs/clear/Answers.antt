@@ -1,9 +1,7 @@
 -- `clear` sets every word to 0. The invariant: the words passed are 0, at the front of what stood there.
-use mathlib.Core.Path.{◌≡◌, sym, ◌∙◌, refl}
-use Prim.Native.Nat.{◌≤◌, ◌-◌}
+use mathlib.Core.Path.{sym, ◌∙◌, refl}
 use native.Mathlib.Omega.{arith}
-use lib.ListN.{length, replicate, length-set}
-use Rattle.definitions.specs.Words.{placed}
+use lib.ListN.{length-set}
 use Rattle.slices.proofs.Fronts.{zero_more, zero_all}
 use Rattle.lists.specs.Lists.{placed_none}
 use Rattle.slices.proofs.clear.Goals as goal

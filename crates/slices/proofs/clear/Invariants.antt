@@ -1,11 +1,8 @@
 -- `clear` sets every word to 0. The invariant: the words passed are 0, at the front of what stood there.
-use mathlib.Core.Path.{◌≡◌, sym, ◌∙◌, refl}
+use mathlib.Core.Path.{◌≡◌}
 use Prim.Native.Nat.{◌≤◌, ◌-◌}
-use native.Mathlib.Omega.{arith}
-use lib.ListN.{length, replicate, length-set}
+use lib.ListN.{length, replicate}
 use Rattle.definitions.specs.Words.{placed}
-use Rattle.slices.proofs.Fronts.{zero_more, zero_all}
-use Rattle.lists.specs.Lists.{placed_none}
 use Rattle.slices.proofs.clear.Given as goal
 
 abbrev pub invariant-loop-i : goal.invariant-loop-i

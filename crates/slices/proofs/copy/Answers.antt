@@ -1,9 +1,7 @@
 -- `copy` places one slice at the front of another. The invariant: the words passed stand there.
-use mathlib.Core.Path.{◌≡◌, sym, ◌∙◌, refl}
-use Prim.Native.Nat.{◌≤◌, ◌-◌}
+use mathlib.Core.Path.{sym, ◌∙◌, refl}
 use native.Mathlib.Omega.{arith}
-use lib.ListN.{length, take, get_or, length-set}
-use Rattle.definitions.specs.Words.{placed}
+use lib.ListN.{get_or, length-set}
 use Rattle.slices.proofs.Fronts.{taken_more, taken_all}
 use Rattle.lists.specs.Lists.{placed_none}
 use Rattle.slices.proofs.copy.Goals as goal

@@ -1,11 +1,8 @@
 -- `copy` places one slice at the front of another. The invariant: the words passed stand there.
-use mathlib.Core.Path.{◌≡◌, sym, ◌∙◌, refl}
+use mathlib.Core.Path.{◌≡◌}
 use Prim.Native.Nat.{◌≤◌, ◌-◌}
-use native.Mathlib.Omega.{arith}
-use lib.ListN.{length, take, get_or, length-set}
+use lib.ListN.{length, take}
 use Rattle.definitions.specs.Words.{placed}
-use Rattle.slices.proofs.Fronts.{taken_more, taken_all}
-use Rattle.lists.specs.Lists.{placed_none}
 use Rattle.slices.proofs.copy.Given as goal
 
 abbrev pub invariant-loop-i : goal.invariant-loop-i

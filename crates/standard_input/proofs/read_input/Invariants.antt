@@ -1,16 +1,14 @@
--- `read_input` reads until the slice is full. The loop's invariant: what is read fits.
-use mathlib.Core.Path.{◌≡◌, refl}
-use Prim.Native.Nat.{ℕ, ◌-◌, ◌≤◌}
-use native.Mathlib.Omega.{arith}
-use lib.IntN.{ℤ, pos, negsuc}
-use lib.ListN.{length}
-use borrow.Author.Rules.{rules}
-use Rattle.standard_input.specs.declared.Input.{Input}
-use Rattle.standard_input.specs.Reading.{Fits, answer_at}
+-- `read_input` reads until the slice is full. The loop's invariant: what is read fits, and the slice begins with what the reader gave.
+use Rattle.std.proofs.Common.{◌≡◌, ◌-◌, ◌≤◌, length, take}
+use Rattle.std.specs.Io.KnownBytes.{Consumes}
 use Rattle.standard_input.proofs.read_input.Given as goal
 
 abbrev pub invariant-loop-n : goal.invariant-loop-n
-invariant-loop-n l = (l.n ≤ length l.initial.input) × (length l.input ≡ length l.initial.input)
+invariant-loop-n g l = record {
+  fits : l.n ≤ length l.input;
+  same_length : length l.input ≡ length l.initial.input;
+  bytes : Consumes (g.R.Read.remaining l.initial.reader) (g.R.Read.remaining l.reader) (take l.n l.input);
+}
 
 abbrev pub decreases-loop-n : goal.decreases-loop-n
-decreases-loop-n l = length l.initial.input - l.n
+decreases-loop-n g l = length l.input - l.n
