@@ -1,6 +1,5 @@
 -- `all_agree` goes over the positions of the drive. The loop's invariant: the drive has at most 63 samples.
 use Prim.Native.Nat.{◌≤◌, ◌-◌}
-use native.Mathlib.Omega.{arith}
 use lib.ListN.{length}
 use Rattle.trials.proofs.all_agree.Given as goal
 

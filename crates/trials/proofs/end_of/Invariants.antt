@@ -1,6 +1,5 @@
 -- `end_of` looks at byte after byte. The loop's invariant: its place is inside the slice, from i on.
 use Prim.Native.Nat.{◌≤◌, ◌-◌}
-use native.Mathlib.Omega.{arith}
 use lib.ListN.{length}
 use Rattle.trials.proofs.end_of.Given as goal
 

@@ -1,6 +1,5 @@
 -- `print_list` prints entry after entry. The loop's invariant: n is at most 64, so that each entry is there.
 use Prim.Native.Nat.{◌≤◌, ◌-◌}
-use native.Mathlib.Omega.{arith}
 use Rattle.trials.proofs.print_list.Given as goal
 
 abbrev pub invariant-loop-i : goal.invariant-loop-i

@@ -1,6 +1,5 @@
 -- `run` tries line after line. What is left of the input gets shorter; the loop needs no invariant.
 use Prim.Native.Nat.{◌≤◌, ◌-◌}
-use native.Mathlib.Omega.{arith}
 use lib.ListN.{length}
 use Rattle.trials.proofs.run.Given as goal
 
