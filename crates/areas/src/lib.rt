@@ -1,18 +1,17 @@
 // What stands of a rule in the areas of a search: its length, a place, its number of occurrences, and the cut at its join.
 #![tactic(auto)]
 
-ghost use Rattle.std.specs.Prelude.{◌≡◌, ◌≤◌, ltb};
+ghost use Rattle.std.specs.Prelude.{◌≡◌, ◌≤◌, ◌<◌, ltb, MatchOption};
 ghost use Rattle.layout.specs.Layout.{Readable, length_in, place_in, count_in, join_cut_in};
 
 use layout::{FOUND, LENGTHS, PACK, PLACES};
-use slices::wide;
 
 // The length of rule r's string.
 pub fn length_of(work: &[u32], r: usize) -> usize
     requires { Readable work.now r }
     ensures { result ≡ length_in work.now r }
 {
-    wide(work[LENGTHS + r])
+    work[LENGTHS + r] as usize
 }
 
 // Whether it has fewer than m symbols.
@@ -28,7 +27,7 @@ pub fn place_of(work: &[u32], r: usize) -> usize
     requires { Readable work.now r }
     ensures { result ≡ place_in work.now r }
 {
-    wide(work[PLACES + r])
+    work[PLACES + r] as usize
 }
 
 // How many occurrences it has.
@@ -36,13 +35,16 @@ pub fn number_of(work: &[u32], r: usize) -> usize
     requires { Readable work.now r }
     ensures { result ≡ count_in work.now r }
 {
-    wide(work[FOUND + r] / PACK)
+    (work[FOUND + r] / PACK) as usize
 }
 
-// The cut at which one straddles its join, 0 if none does.
-pub fn cut_of(work: &[u32], r: usize) -> usize
+// The cut at which one straddles its join, if one does.
+pub fn cut_of(work: &[u32], r: usize) -> Option<usize>
     requires { Readable work.now r }
-    ensures { result ≡ join_cut_in work.now r }
+    ensures { MatchOption result (join_cut_in work.now r ≡ 0) (λ c. (c ≡ join_cut_in work.now r) × (0 < c)) }
 {
-    wide(work[FOUND + r] % PACK)
+    match (work[FOUND + r] % PACK) as usize {
+        0 => None,
+        c => Some(c),
+    }
 }

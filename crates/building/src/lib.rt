@@ -17,11 +17,11 @@ pub fn build(text: &[u8], chair: u16, work: &mut [u32], res: &mut [u32]) -> Answ
     ensures { Serves (build_service sample_order text.now chair work.old res.old) (Answers result) (work.new ∷ res.new ∷ []) }
 {
     let t = text_fits(text);
-    let Answer::Done(_) = t else {
+    let Ok(_) = t else {
         return t;
     };
     let w = work_fits(work.len());
-    let Answer::Done(_) = w else {
+    let Ok(_) = w else {
         return w;
     };
     let a = build_in(text, chair, &mut work[0..WORK], res);
@@ -34,7 +34,7 @@ pub fn build_profile(text: &[u8], chair: u16, work: &mut [u32], res: &mut [u32])
     ensures { Serves (build_profile_service sample_order text.now chair work.old res.old) (Answers result) (work.new ∷ res.new ∷ []) }
 {
     let p = drive_fits(text);
-    let Answer::Done(_) = p else {
+    let Ok(_) = p else {
         return p;
     };
     build(text, chair, work, res)

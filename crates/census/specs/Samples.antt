@@ -1,6 +1,6 @@
 -- A drive from the lists of its single samples: a sample written where it stands (`put_all`), the samples below k written so far (`SoFar`), and how many these are (`number_below`).
 -- One sample more: `number_more`, `so_far_more`; all of them: `number_all`, `so_far_all`.
-use Rattle.std.specs.Prelude.{◌≡◌, refl, Bool, true, false, cond, ◌&&◌, ℕ, zero, suc, ◌+◌, ◌≤◌, ◌<◌, length, take, drop, get_or, set, ltb, eqb}
+use Rattle.std.specs.Prelude.{Ok, Err, ◌≡◌, refl, Bool, true, false, cond, ◌&&◌, ℕ, zero, suc, ◌+◌, ◌≤◌, ◌<◌, length, take, drop, get_or, set, ltb, eqb}
 use Rattle.std.proofs.Math.Path.{sym}
 use Rattle.std.proofs.Common.{◌∙◌, ap, ap₂, subst, ⊎_elim, arith, length-set, length-append, drop_of_length-le, le_refl, drop-cons, get_or-set_same, get_or-set_other, lt-ltb, le-ltb, eqb-true, eq-eqb, ne_eqb}
 use mathlib.Core.List.Memᴰ.{cases_cons as in-cons}
@@ -8,13 +8,13 @@ use mathlib.Core.List.Memᴰ.{head as here}
 use mathlib.Core.List.Memᴰ.{not-nil as in-nil}
 use mathlib.Core.List.Memᴰ.{tail as there}
 use mathlib.Core.List.{List, [], ◌∷◌, ◌++◌, append-nil, Memᴰ as In}
+use Rattle.definitions.specs.declared.Refusal.{Refusal}
 use Rattle.definitions.specs.declared.Order.{Order}
-use Rattle.definitions.specs.declared.Answer.{Answer}
-use Rattle.definitions.specs.declared.Answer.TheVariants.{Done, Refused}
+use Rattle.std.specs.Result.{result_unwrap_or}
 use Rattle.definitions.specs.Words.{below, begins}
 use Rattle.definitions.specs.Table.{text_of}
 use Rattle.definitions.specs.Occurrences.{occurrences}
-use Rattle.definitions.specs.Services.{Check, work_slice, cleared, table_checks}
+use Rattle.definitions.specs.Services.{Answer, refused, outcome_of, Check, work_slice, cleared, table_checks}
 use Rattle.lists.specs.Bools.{contra, bool_ext}
 use Rattle.lists.specs.Numbers.{split_lt, below_in, below_lt, below_ext, below_none, below_all, below_length}
 use Rattle.lists.specs.Members.{at_in}
@@ -23,31 +23,29 @@ use Rattle.lyndon.specs.Ranks.{Bytes}
 
 -- ---- what a call that is handed a table ends with: refused by a check of the table, or done, with n and with what then holds
 
-pub data Tried (o : Order) (t work after : List ℕ) (n : ℕ) (holds : Type 0) : Answer → Type 0 where
-  turned_down : (d : Check) → First d (table_checks o t (length work)) → after ≡ (work_slice work).if_refused d → Tried o t work after n holds (Refused d.number d.place)
-  done : Passed (table_checks o t (length work)) → after ≡ cleared work → holds → Tried o t work after n holds (Done n)
+pub data Tried (o : Order) (t work after : List ℕ) (n : ℕ) (holds : Type 0) (r : Answer) : Type 0 where
+  turned_down : (d : Check) → First d (table_checks o t (length work)) → after ≡ (work_slice work).if_refused d → outcome_of r ≡ refused d.number d.place → Tried o t work after n holds r
+  done : Passed (table_checks o t (length work)) → after ≡ cleared work → holds → r ≡ Ok n → Tried o t work after n holds r
 
 module _ {o : Order} {t work after : List ℕ} {n : ℕ} {holds : Type 0} where
   -- a refusal says nothing of what success would give
-  pub tried_refused : {r : Answer} {a b m : ℕ} {other : Type 0} → Tried o t work after n holds r → r ≡ Refused a b → Tried o t work after m other r
-  tried_refused (turned_down d f e) q = turned_down d f e
-  tried_refused (done p e h) q =
+  pub tried_refused : {r : Answer} {f : Refusal} {m : ℕ} {other : Type 0} → Tried o t work after n holds r → r ≡ Err f → Tried o t work after m other r
+  tried_refused (turned_down d f e a) q = turned_down d f e a
+  tried_refused {r} {f} (done p e h a) q =
+      let g : Ok n ≡ Err f = sym a ∙ q in
       let z : ◌≡◌ {A = ℕ} 0 1 = cc in
       absurd (omega arith)
 
-  pub tried_done : {r : Answer} {k : ℕ} → Tried o t work after n holds r → r ≡ Done k → Passed (table_checks o t (length work)) × (k ≡ n) × (after ≡ cleared work) × holds
-  tried_done (done p e h) q = (p, cc, e, h)
-  tried_done (turned_down d f e) q =
+  pub tried_done : {r : Answer} {k : ℕ} → Tried o t work after n holds r → r ≡ Ok k → Passed (table_checks o t (length work)) × (k ≡ n) × (after ≡ cleared work) × holds
+  unfolding outcome_of
+  tried_done {r} {k} (done p e h a) q = let g : Ok k ≡ Ok n = sym q ∙ a in (p, cc, e, h)
+  tried_done {r} {k} (turned_down d f e a) q =
+      let g : outcome_of (Ok k) ≡ refused d.number d.place = sym (ap outcome_of q) ∙ a in
       let z : ◌≡◌ {A = ℕ} 0 1 = cc in
       absurd (omega arith)
 
-  pub done_tried : {r : Answer} {k : ℕ} → Passed (table_checks o t (length work)) → k ≡ n → after ≡ cleared work → holds → r ≡ Done k → Tried o t work after n holds r
-  done_tried p g e h q = subst (λ (a : Answer). Tried o t work after n holds a) (sym (q ∙ ap Done g)) (done p e h)
-
--- what success gives; 0 of a refusal
-unfoldable pub amount : Answer → ℕ
-amount (Done n) = n
-amount (Refused number place) = 0
+  pub done_tried : {r : Answer} {k : ℕ} → Passed (table_checks o t (length work)) → k ≡ n → after ≡ cleared work → holds → r ≡ Ok k → Tried o t work after n holds r
+  done_tried p g e h q = done p e h (q ∙ ap Ok g)
 
 -- ---- samples written where they stand
 
@@ -220,10 +218,9 @@ both_ways (met e) (more _ f p) = contra e f
 both_ways (later c e f) (more _ g p) = both_ways f p
 
 module _ (o : Order) (t work : List ℕ) (accepts : Passed (table_checks o t (length work))) (clear : work ≡ cleared work) where
-  pub turn : {after : List ℕ} {n m : ℕ} {holds : Type 0} {r : Answer} → Tried o t work after n holds r → m ≡ amount r → (after ≡ work) × (m ≡ n) × holds
-  unfolding amount
-  turn (turned_down d f e) q = absurd (both_ways f accepts)
-  turn (done p e h) q = (e ∙ sym clear, q, h)
+  pub turn : {after : List ℕ} {n m : ℕ} {holds : Type 0} {r : Answer} → Tried o t work after n holds r → m ≡ result_unwrap_or r 0 → (after ≡ work) × (m ≡ n) × holds
+  turn (turned_down d f e a) q = absurd (both_ways f accepts)
+  turn (done p e h a) q = (e ∙ sym clear, q ∙ ap (λ (x : Answer). result_unwrap_or x 0) a, h)
 
 pub number_most : (text : List ℕ) (k : ℕ) → number_below text k ≤ length text
 unfolding number_below

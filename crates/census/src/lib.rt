@@ -5,11 +5,11 @@
 ghost use Rattle.std.specs.Prelude.{◌≡◌, [], ◌∷◌, ◌+◌, ◌≤◌, ◌<◌, length, take};
 ghost use Rattle.definitions.specs.Table.{text_of};
 ghost use Rattle.definitions.specs.Occurrences.{occurrences};
-ghost use Rattle.definitions.specs.Services.{Serves, Answers, sample_order, odd_window, census_service};
+ghost use Rattle.definitions.specs.Services.{outcome_of, Serves, Answers, sample_order, odd_window, census_service};
 ghost use Rattle.lists.specs.Decisions.{checked};
-ghost use Rattle.census.specs.Samples.{Tried, Begun, SoFar, number_below, put_all, amount, Places};
+ghost use Rattle.census.specs.Samples.{Tried, Begun, SoFar, number_below, put_all, Places};
 
-use definitions::{Answer, Content};
+use definitions::{Answer, Content, Refusal};
 use run_counts::deliver;
 
 // Lists the distinct runs of q samples of the drive of a table, q bytes each, and how often each begins there. Refuses by 13, 4 to 7, 9; success answers how many runs there
@@ -24,12 +24,12 @@ pub fn census(
     ensures { Serves (census_service sample_order table.now q work.old runs.old counts.old) (Answers result) (work.new ∷ runs.new ∷ counts.new ∷ []) }
 {
     let a = window_fits(q);
-    let Answer::Done(_) = a else {
+    let Ok(_) = a else {
         return a;
     };
     let mut drive = [0u8; 2047];
     let b = read_samples(table, work, &mut drive);
-    let Answer::Done(n) = b else {
+    let Ok(n) = b else {
         return b;
     };
     deliver(&drive[0..n], q, runs, counts)
@@ -37,15 +37,15 @@ pub fn census(
 
 // Refusal 13, or q.
 fn window_fits(q: usize) -> Answer
-    ensures { result ≡ checked (odd_window q) q }
+    ensures { outcome_of result ≡ checked (odd_window q) q }
 {
     if q < 1 {
-        return Answer::Refused(13, 0);
+        return Err(Refusal::OddWindow);
     }
     if 8 < q {
-        return Answer::Refused(13, 0);
+        return Err(Refusal::OddWindow);
     }
-    Answer::Done(q)
+    Ok(q)
 }
 
 // Writes the drive of a table at the front of a slice, and answers how many samples it has. Refuses by 4 to 7.
@@ -54,11 +54,11 @@ fn read_samples(table: &[u32], work: &mut [u32], drive: &mut [u8]) -> Answer
     ensures { Tried sample_order table.now work.old work.new (length (text_of sample_order table.now)) (take (length (text_of sample_order table.now)) drive.new ≡ text_of sample_order table.now) result }
 {
     let a = place_sample(table, 0, work, drive);
-    let Answer::Done(n) = a else {
+    let Ok(n) = a else {
         return a;
     };
     let m = place_others(table, work, drive);
-    Answer::Done(n + m)
+    Ok(n + m)
 }
 
 // Places the samples 1 to 255, once sample 0 is placed, and answers how many there are.
@@ -68,11 +68,9 @@ fn place_others(table: &[u32], work: &mut [u32], drive: &mut [u8]) -> usize
     ensures work_unchanged { work.new ≡ work.old }
     ensures so_far { SoFar (text_of sample_order table.now) 256 drive.new }
 {
-    let mut sample: u8 = 0;
     let mut n = 0;
-    while sample < 255 {
-        sample += 1;
-        n += amount_of(place_sample(table, sample, work, drive));
+    for sample in 1..=255 {
+        n += place_sample(table, sample, work, drive).unwrap_or(0);
     }
     n
 }
@@ -86,7 +84,7 @@ fn place_sample(table: &[u32], sample: u8, work: &mut [u32], drive: &mut [u8]) -
     let mut positions = [0u32; 2047];
     let found = index::locate(table, Content::Samples, &pattern, work, &mut positions);
     let a = found.answer;
-    let Answer::Done(n) = a else {
+    let Ok(n) = a else {
         return a;
     };
     put_at(&positions[0..n], sample, drive);
@@ -98,20 +96,7 @@ fn put_at(places: &[u32], sample: u8, drive: &mut [u8])
     requires { Places places.now drive.old }
     ensures { drive.new ≡ put_all places.now sample drive.old }
 {
-    let mut i = 0;
-    while i < places.len() {
-        let at = places[i] as usize;
-        drive[at] = sample;
-        i += 1;
-    }
-}
-
-// What success gives; 0 of a refusal.
-fn amount_of(a: Answer) -> usize
-    ensures { result ≡ amount a }
-{
-    match a {
-        Answer::Done(n) => n,
-        Answer::Refused(_, _) => 0,
+    for place in places {
+        drive[*place as usize] = sample;
     }
 }

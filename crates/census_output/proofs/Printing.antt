@@ -7,13 +7,13 @@ use native.Mathlib.Omega.{arith}
 use native.Mathlib.Nat.{le_trans, le_of_eq}
 use lib.ListN.{length, take, drop, get_or, length-take, length-drop}
 use borrow.Author.Tests.{lt-ltb, ltb-false}
+use Rattle.definitions.specs.declared.Refusal.{Refusal}
 use Rattle.definitions.specs.declared.Order.{Order}
-use Rattle.definitions.specs.declared.Answer.{Answer}
-use Rattle.definitions.specs.declared.Answer.TheVariants.{Done, Refused}
+use Rattle.std.specs.declared.result.Result.TheVariants.{Ok, Err}
 use Rattle.definitions.specs.Words.{placed}
 use Rattle.definitions.specs.Table.{table_of}
 use Rattle.definitions.specs.Census.{census_runs, census_counts, joined, total}
-use Rattle.definitions.specs.Services.{Check, first_met, result_slice, Serves, Answers, text_too_long, odd_window, sample_order}
+use Rattle.definitions.specs.Services.{Answer, Check, first_met, result_slice, Serves, Answers, text_too_long, odd_window, sample_order}
 use Rattle.definitions.specs.Programs.{decimal, line, refused_line, printed, window_of, census_drive, census_lines, census_output}
 use Rattle.lists.specs.Decisions.{Passed, more}
 use Rattle.lyndon.specs.Ranks.{Bytes}
@@ -54,11 +54,11 @@ module _ (input old table : List ℕ) (r : Answer) (v : Serves (drive_step sampl
   unfolding census_output window_output printed first_met
   output = refl
 
-  pub drive_refused : {x y : ℕ} → r ≡ Refused x y → refusal r ≡ census_output sample_order input
+  pub drive_refused : {f : Refusal} → r ≡ Err f → refusal r ≡ census_output sample_order input
   unfolding drive_step
   drive_refused q = refusal_printed drive_checks (length t) (result_slice t old ∷ []) v q (window_output sample_order input) (census_output sample_order input) output
 
-  pub drive_done : {k : ℕ} → r ≡ Done k
+  pub drive_done : {k : ℕ} → r ≡ Ok k
       → (k ≤ length table) × Built input (take (k - 0) table) × (window_output sample_order input ≡ census_output sample_order input)
   unfolding drive_step
   drive_done q =
@@ -90,11 +90,11 @@ module _ (input oldRuns oldCounts runs counts : List ℕ) (r : Answer) (v : Serv
   unfolding window_output
   census_output_lem = refl
 
-  pub census_refused : {x y : ℕ} → r ≡ Refused x y → refusal r ≡ window_output sample_order input
+  pub census_refused : {f : Refusal} → r ≡ Err f → refusal r ≡ window_output sample_order input
   unfolding window_step
   census_refused e = refusal_printed (odd_window q ∷ []) (length often) (result_slice listed oldRuns ∷ result_slice often oldCounts ∷ []) v e l (window_output sample_order input) census_output_lem
 
-  module _ {k : ℕ} (e : r ≡ Done k) (bytes : Bytes (census_drive input)) (short : length (census_drive input) ≤ 2047) where
+  module _ {k : ℕ} (e : r ≡ Ok k) (bytes : Bytes (census_drive input)) (short : length (census_drive input) ≤ 2047) where
     left : Passed (odd_window q ∷ []) × (k ≡ length often) × (runs ∷ counts ∷ [] ≡ placed listed oldRuns ∷ placed often oldCounts ∷ [])
     unfolding window_step
     left = success_left (odd_window q ∷ []) (length often) (result_slice listed oldRuns ∷ result_slice often oldCounts ∷ []) v e

@@ -8,10 +8,9 @@ use lib.ListN.{length, get_or}
 use lib.Dec.{ltb}
 use borrow.Author.Tests.{le-ltb, ltb-false}
 use Rattle.definitions.specs.declared.Order.{Order}
-use Rattle.definitions.specs.declared.Answer.{Answer}
 use Rattle.definitions.specs.Table.{table_of}
 use Rattle.definitions.specs.Census.{census_runs, census_counts, joined}
-use Rattle.definitions.specs.Services.{Outcome, Service, first_met, outcome, slices_after, Serves, Answers, table_checks, build_service, census_service}
+use Rattle.definitions.specs.Services.{Answer, Outcome, Service, first_met, outcome, slices_after, Serves, Answers, table_checks, build_service, census_service}
 use Rattle.definitions.specs.Programs.{window_of, census_drive}
 use Rattle.lists.specs.Members.{in_drop}
 use Rattle.lyndon.specs.Ranks.{Bytes, slice_bytes}

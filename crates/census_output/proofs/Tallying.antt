@@ -1,13 +1,14 @@
--- How long the line of a run and its count is (`tally_most`, `tallies_most`), where the run stands (`tally_within`, `tally_run`), and the sum of counts, the last one first
--- (`total_none`, `total_more`), which is written behind the lines (`report_stored`).
-use mathlib.Core.Path.{◌≡◌, sym, ◌∙◌, ap}
-use mathlib.Core.List.{List, [], ◌∷◌, ◌++◌}
+-- How long the line of a run and its count is (`tally_most`, `tallies_most`), where the run stands (`tally_within`, `tally_run`), and the sum of counts
+-- (`total_sum`, `total_most`), which is written behind the lines (`report_stored`).
+use mathlib.Core.Path.{◌≡◌, refl, ◌∙◌, ap}
+use mathlib.Core.List.{List, [], ◌∷◌, ◌++◌, map}
 use Prim.Native.Nat.{ℕ, suc, ◌+◌, ◌-◌, ◌*◌, ◌≤◌, ◌<◌}
 use native.Mathlib.Omega.{arith}
-use native.Mathlib.Nat.{mul-suc, mul-le-mul_left, le_of_eq}
-use lib.ListN.{length, take, drop, get_or, length-append, length-take, drop_of_length-le}
-use lib.Seq.{drop-cons}
+use native.Mathlib.Nat.{mul-suc, mul-le-mul_left}
+use lib.ListN.{length, take, drop, get_or, length-append, length-take}
 use Rattle.definitions.specs.Words.{placed}
+use Rattle.std.specs.List.{sum}
+use Rattle.std.proofs.lemmas.List.Sums.{sum_by-cons}
 use Rattle.definitions.specs.Census.{total}
 use Rattle.definitions.specs.Programs.{decimal, line, named, spaced}
 use Rattle.lists.specs.Members.{at_in, in_take, in_drop}
@@ -58,13 +59,13 @@ report_stored q runs counts old w z n m s room e f g h i =
 
 -- ---- the sum
 
-module _ (l : List ℕ) (i : ℕ) where
-  pub total_none : i ≡ length l → 0 ≡ total (drop i l)
-  unfolding total
-  total_none e = sym (ap total (drop_of_length-le l (le_of_eq (sym e))))
+pub total_sum : (l : List ℕ) → sum (map (λ x. x) l) ≡ total l
+unfolding total
+total_sum [] = refl
+total_sum (n ∷ l) = omega (arith, sum_by-cons (λ x. x) n (map (λ x. x) l), total_sum l)
 
-  pub total_more : {x s : ℕ} → 0 < i → i ≤ length l → x ≡ get_or l (i - 1) 0 → s ≡ total (drop i l) → s + x ≡ total (drop (i - 1) l)
-  unfolding total
-  total_more {x} {s} h k e f =
-      let next : suc (i - 1) ≡ i = omega arith in
-      omega (arith, ap total (drop-cons l (i - 1) 0 (omega arith)), ap (λ (n : ℕ). total (drop n l)) next)
+-- counts that are words
+pub total_most : (l : List ℕ) → ((i : ℕ) → get_or l i 0 < 4294967296) → total l ≤ 4294967296 * length l
+unfolding total
+total_most [] h = omega arith
+total_most (n ∷ l) h = omega (arith, h 0, total_most l (λ i. h (suc i)))

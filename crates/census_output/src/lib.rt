@@ -22,7 +22,7 @@ pub fn answer(input: &[u8], out: &mut [u8]) -> usize
 {
     let mut table = [0u32; 4608];
     let built = build_drive(input, &mut table);
-    let Answer::Done(words) = built else {
+    let Ok(words) = built else {
         return put_refusal(built, out);
     };
     answer_built(input, &table[0..words], out)
@@ -37,7 +37,7 @@ fn answer_built<'a>(input: &'a [u8], table: &'a [u32], out: &mut [u8]) -> usize
     let mut runs = [0u8; 16376];
     let mut counts = [0u32; 2047];
     let a = count_runs(input, table, &mut runs, &mut counts);
-    let Answer::Done(n) = a else {
+    let Ok(n) = a else {
         return put_refusal(a, out);
     };
     let q = window(input);
@@ -59,10 +59,7 @@ fn build_drive(input: &[u8], table: &mut [u32]) -> Answer
 fn drive_start(input: &[u8]) -> usize
     ensures { (result ≤ length input.now) × (drop result input.now ≡ census_drive input.now) }
 {
-    if input.len() == 0 {
-        return 0;
-    }
-    1
+    input.len().min(1)
 }
 
 // Lists the runs of the drive, whose table is handed over, and their counts. Refuses by 13.
@@ -76,13 +73,11 @@ fn count_runs<'a>(input: &'a [u8], table: &'a [u32], runs: &mut [u8], counts: &m
 }
 
 // The first byte, and 0 where there is none.
+#[tactic(auto, unfolding(definitions::specs::Programs::window_of))]
 fn window(input: &[u8]) -> usize
     ensures { result ≡ window_of input.now }
 {
-    if input.len() == 0 {
-        return 0;
-    }
-    input[0] as usize
+    input.first().copied().unwrap_or(0) as usize
 }
 
 // The lines of success: each run with its count, and the sum of the counts.
@@ -102,13 +97,10 @@ fn put_tallies<'a>(q: usize, runs: &'a [u8], counts: &'a [u32], out: &mut [u8]) 
     ensures value { result ≡ length (tallies q runs.now counts.now) }
     ensures out_after { out.new ≡ placed (tallies q runs.now counts.now) out.old }
 {
-    let mut i = 0;
     let mut n = 0;
-    while i < counts.len() {
+    for (i, count) in counts.iter().enumerate() {
         let start = q * i;
-        let end = start + q;
-        n += put_tally(&runs[start..end], wide(counts[i]), &mut out[n..]);
-        i += 1;
+        n += put_tally(&runs[start..start + q], wide(*count), &mut out[n..]);
     }
     n
 }
@@ -124,16 +116,10 @@ fn put_tally(run: &[u8], count: usize, out: &mut [u8]) -> usize
     n + m
 }
 
-// The sum of counts, the last one first.
+// The sum of counts.
 fn sum(counts: &[u32]) -> usize
     requires { length counts.now ≤ 2047 }
     ensures { result ≡ total counts.now }
 {
-    let mut s = 0;
-    let mut i = counts.len();
-    while 0 < i {
-        i -= 1;
-        s += wide(counts[i]);
-    }
-    s
+    counts.iter().map(|count| wide(*count)).sum()
 }

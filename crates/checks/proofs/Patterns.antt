@@ -7,12 +7,12 @@ use Prim.Native.Nat.{ℕ, ◌≤◌, ◌<◌}
 use native.Mathlib.Omega.{arith}
 use lib.ListN.{length}
 use borrow.Author.Tests.{ltb-false, eqb-false}
+use Rattle.definitions.specs.declared.Refusal.{Refusal}
 use Rattle.definitions.specs.declared.Content.{Content}
 use Rattle.definitions.specs.declared.Content.TheVariants.{Samples, Steps}
-use Rattle.definitions.specs.declared.Answer.{Answer}
-use Rattle.definitions.specs.declared.Answer.TheVariants.{Done, Refused}
+use Rattle.std.specs.declared.result.Result.TheVariants.{Ok, Err}
 use Rattle.definitions.specs.Steps.{searched}
-use Rattle.definitions.specs.Services.{first_met, no_step, pattern_checks, search_checks}
+use Rattle.definitions.specs.Services.{Answer, done, refused, outcome_of, first_met, no_step, pattern_checks, search_checks}
 use Rattle.lists.specs.Decisions.{Passed, none, more, checked, answered, refused_already, done_all, passed_front}
 use Rattle.lists.specs.Serving.{Clear}
 use Rattle.lyndon.specs.Steps.{steps_some}
@@ -42,13 +42,13 @@ passed_search Steps p (more a e (more b f (more c g none))) =
 
 -- ---- what `search_fits` answers, by what the checks of the pattern answer
 
-module _ (p : List ℕ) {r : Answer} (e : r ≡ answered (pattern_checks p) (length p)) where
-  pub search_refused : (c : Content) {a b : ℕ} → r ≡ Refused a b → r ≡ answered (search_checks c p) (length p)
+module _ (p : List ℕ) {r : Answer} (e : outcome_of r ≡ answered (pattern_checks p) (length p)) where
+  pub search_refused : (c : Content) {f : Refusal} → r ≡ Err f → outcome_of r ≡ answered (search_checks c p) (length p)
   unfolding search_checks
   search_refused Samples h = e
   search_refused Steps h = refused_already (pattern_checks p) (length p) e h (no_step p ∷ [])
 
   -- where the table holds steps the last check decides
-  pub search_steps : {m : ℕ} → r ≡ Done m → {s : Answer} → s ≡ checked (no_step p) (length p) → s ≡ answered (search_checks Steps p) (length p)
+  pub search_steps : {m : ℕ} → r ≡ Ok m → (s : Answer) → outcome_of s ≡ checked (no_step p) (length p) → outcome_of s ≡ answered (search_checks Steps p) (length p)
   unfolding search_checks first_met
-  search_steps h f = f ∙ sym (passed_front (no_step p ∷ []) (λ c. Refused c.number c.place) (Done (length p)) (done_all (pattern_checks p) (length p) e h).0)
+  search_steps h s f = f ∙ sym (passed_front (no_step p ∷ []) (λ c. refused c.number c.place) (done (length p) 0) (done_all (pattern_checks p) (length p) e h).0)

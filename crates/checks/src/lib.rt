@@ -3,30 +3,30 @@
 #![tactic(auto)]
 
 ghost use Rattle.std.specs.Prelude.{◌≡◌, ◌≤◌, length};
-ghost use Rattle.definitions.specs.Services.{cleared, text_too_long, pattern_empty, pattern_too_long, no_step, pattern_checks, search_checks, work_too_short, table_length};
+ghost use Rattle.definitions.specs.Services.{outcome_of, cleared, text_too_long, pattern_empty, pattern_too_long, no_step, pattern_checks, search_checks, work_too_short, table_length};
 ghost use Rattle.layout.specs.Layout.{WORK};
 ghost use Rattle.lists.specs.Decisions.{checked, answered};
 
-use definitions::{Answer, Content};
+use definitions::{Answer, Content, Refusal};
 use layout::WORK;
 
 // Refusal 1, or the number of samples.
 pub fn text_fits(text: &[u8]) -> Answer
-    ensures { result ≡ checked (text_too_long text.now) (length text.now) }
+    ensures { outcome_of result ≡ checked (text_too_long text.now) (length text.now) }
 {
     if 2047 < text.len() {
-        Answer::Refused(1, 0)
+        Err(Refusal::TextTooLong)
     } else {
-        Answer::Done(text.len())
+        Ok(text.len())
     }
 }
 
 // Refusals 2 and 3, or the number of samples.
 pub fn pattern_fits(pattern: &[u8]) -> Answer
-    ensures { result ≡ answered (pattern_checks pattern.now) (length pattern.now) }
+    ensures { outcome_of result ≡ answered (pattern_checks pattern.now) (length pattern.now) }
 {
     let a = samples_fit(pattern);
-    let Answer::Done(_) = a else {
+    let Ok(_) = a else {
         return a;
     };
     size_fits(pattern)
@@ -34,32 +34,32 @@ pub fn pattern_fits(pattern: &[u8]) -> Answer
 
 // Refusal 2, or the number of samples.
 fn samples_fit(pattern: &[u8]) -> Answer
-    ensures { result ≡ checked (pattern_empty pattern.now) (length pattern.now) }
+    ensures { outcome_of result ≡ checked (pattern_empty pattern.now) (length pattern.now) }
 {
-    if pattern.len() == 0 {
-        Answer::Refused(2, 0)
+    if pattern.is_empty() {
+        Err(Refusal::PatternEmpty)
     } else {
-        Answer::Done(pattern.len())
+        Ok(pattern.len())
     }
 }
 
 // Refusal 3, or the number of samples.
 fn size_fits(pattern: &[u8]) -> Answer
-    ensures { result ≡ checked (pattern_too_long pattern.now) (length pattern.now) }
+    ensures { outcome_of result ≡ checked (pattern_too_long pattern.now) (length pattern.now) }
 {
     if 2047 < pattern.len() {
-        Answer::Refused(3, 0)
+        Err(Refusal::PatternTooLong)
     } else {
-        Answer::Done(pattern.len())
+        Ok(pattern.len())
     }
 }
 
 // Refusals 2, 3 and, where a table holds steps, 10, or the number of samples.
 pub fn search_fits(content: Content, pattern: &[u8]) -> Answer
-    ensures { result ≡ answered (search_checks content pattern.now) (length pattern.now) }
+    ensures { outcome_of result ≡ answered (search_checks content pattern.now) (length pattern.now) }
 {
     let a = pattern_fits(pattern);
-    let Answer::Done(_) = a else {
+    let Ok(_) = a else {
         return a;
     };
     let Content::Steps = content else {
@@ -70,40 +70,34 @@ pub fn search_fits(content: Content, pattern: &[u8]) -> Answer
 
 // Refusal 10, or the number of samples.
 fn steps_fit(pattern: &[u8]) -> Answer
-    ensures { result ≡ checked (no_step pattern.now) (length pattern.now) }
+    ensures { outcome_of result ≡ checked (no_step pattern.now) (length pattern.now) }
 {
     if pattern.len() == 1 {
-        Answer::Refused(10, 0)
+        Err(Refusal::NoStep)
     } else {
-        Answer::Done(pattern.len())
+        Ok(pattern.len())
     }
 }
 
 // Refusal 4 of a work slice of n words, or n.
 pub fn work_fits(n: usize) -> Answer
-    ensures { result ≡ checked (work_too_short n) n }
+    ensures { outcome_of result ≡ checked (work_too_short n) n }
 {
     if n < WORK {
-        Answer::Refused(4, 0)
+        Err(Refusal::WorkTooShort)
     } else {
-        Answer::Done(n)
+        Ok(n)
     }
 }
 
 // Refusal 5 of a table of n words, or n.
 pub fn length_fits(n: usize) -> Answer
-    ensures { result ≡ checked (table_length n) n }
+    ensures { outcome_of result ≡ checked (table_length n) n }
 {
-    if n == 0 {
-        return Answer::Refused(5, 0);
+    if n == 0 || n % 2 == 1 || 4608 < n {
+        return Err(Refusal::TableLength);
     }
-    if n % 2 == 1 {
-        return Answer::Refused(5, 0);
-    }
-    if 4608 < n {
-        return Answer::Refused(5, 0);
-    }
-    Answer::Done(n)
+    Ok(n)
 }
 
 // Clears the words that the services use.

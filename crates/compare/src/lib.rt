@@ -33,18 +33,14 @@ pub fn rest_before(s: &[u32], i: usize, j: usize, k: usize) -> bool
     if k == 1 {
         return false;
     }
-    let q = j + 1;
-    let e = j + k;
-    smaller(&s[p..j], &s[q..e])
+    smaller(&s[p..j], &s[j + 1..j + k])
 }
 
 // Whether the string x is smaller than the string y.
 fn smaller<'a>(x: &'a [u32], y: &'a [u32]) -> bool
     ensures { result ≡ lexlt x.now y.now }
 {
-    let m = x.len();
-    let n = y.len();
-    let short = if m < n { m } else { n };
+    let short = x.len().min(y.len());
     if short < 16 {
         return smaller_from(x, y, 0, short);
     }
@@ -57,16 +53,13 @@ fn alike<'a>(x: &'a [u32], y: &'a [u32], blocks: usize) -> usize
     requires { (8 * blocks ≤ length x.now) × (8 * blocks ≤ length y.now) }
     ensures { (result ≤ blocks) × (lexlt x.now y.now ≡ lexlt (drop (8 * result) x.now) (drop (8 * result) y.now)) }
 {
-    let mut i = 0;
-    while i < blocks {
+    for i in 0..blocks {
         let a = 8 * i;
-        let b = a + 8;
-        if !equality::equal_many(&x[a..b], &y[a..b]) {
+        if !equality::equal_many(&x[a..a + 8], &y[a..a + 8]) {
             return i;
         }
-        i += 1;
     }
-    i
+    blocks
 }
 
 // Whether what follows the first symbols of x is smaller than what follows those of y; `short` is the length of the shorter.
@@ -74,14 +67,12 @@ fn smaller_from<'a>(x: &'a [u32], y: &'a [u32], from: usize, short: usize) -> bo
     requires { (from ≤ short) × (short ≡ min (length x.now) (length y.now)) }
     ensures { result ≡ lexlt (drop from x.now) (drop from y.now) }
 {
-    let mut i = from;
-    while i < short {
+    for i in from..short {
         let a = x[i];
         let b = y[i];
         if a != b {
             return a < b;
         }
-        i += 1;
     }
     x.len() < y.len()
 }

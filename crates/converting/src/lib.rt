@@ -17,7 +17,7 @@ pub fn to_signed(table: &[u32], work: &mut [u32], res: &mut [u32]) -> Answer
     ensures { Serves (convert_order_service former_order sample_order table.now work.old res.old) (Answers result) (work.new ∷ res.new ∷ []) }
 {
     let a = admit(FORMER_ORDER, table, work);
-    let Answer::Done(rules) = a else {
+    let Ok(rules) = a else {
         return a;
     };
     let b = reorder_loaded(FORMER_ORDER, rules, &mut work[0..WORK], res);

@@ -17,7 +17,7 @@ pub fn floor_log2(m: usize) -> usize
     requires { (0 < m) × (m ≤ 2047) }
     ensures { Largest m result }
 {
-    (31 - u32::leading_zeros(m as u32)) as usize
+    (31 - (m as u32).leading_zeros()) as usize
 }
 
 // Writes the listed cuts at the front of a slice. Answers how many there are.
@@ -45,27 +45,16 @@ fn append_run(cuts: &mut [u32], n: usize, run: Run, m: usize) -> usize
         return n;
     }
     put(cuts, n, run.start as u32);
-    append(cuts, n + 1, run.back, is_last_listed(run, m))
+    if !is_last_listed(run, m) {
+        return n + 1;
+    }
+    put(cuts, n + 1, run.back as u32);
+    n + 2
 }
 
 // Whether the start of the last copy of a run that reaches the end of m samples is listed too: it is not the first copy, and nothing follows it.
 fn is_last_listed(run: Run, m: usize) -> bool
     ensures { result ≡ ltb run.start run.back && eqb run.next m }
 {
-    if run.start < run.back {
-        return run.next == m;
-    }
-    false
-}
-
-// Writes a cut behind the n that stand at the front, if it is listed. Answers how many stand there then.
-fn append(cuts: &mut [u32], n: usize, cut: usize, listed: bool) -> usize
-    requires { (n + length (cond listed (cut ∷ []) []) ≤ length cuts.old) × (cut < 2047) }
-    ensures { Appended (cond listed (cut ∷ []) []) n result cuts.old cuts.new }
-{
-    if listed {
-        cuts[n] = cut as u32;
-        return n + 1;
-    }
-    n
+    run.start < run.back && run.next == m
 }

@@ -11,7 +11,7 @@ pub fn put_decimal_line(number: usize, out: &mut [u8]) -> usize
     ensures value { result ≡ length (line (decimal number)) }
     ensures out_after { out.new ≡ placed (line (decimal number)) out.old }
 {
-    put_decimal(number, 10, out)
+    put_decimal(number, b'\n', out)
 }
 
 // Writes a number and a byte behind it, and answers how many bytes that is.
@@ -31,15 +31,13 @@ fn digit_count(number: usize) -> usize
     ensures { result ≡ digit_count number }
 {
     let mut rest = number;
-    let mut n = 1;
-    while n < 10 {
+    for n in 1..10 {
         if rest < 10 {
             return n;
         }
-        rest = rest / 10;
-        n += 1;
+        rest /= 10;
     }
-    n
+    10
 }
 
 // The last digits of a number, as many as `count` says: the last is written first.
@@ -48,10 +46,8 @@ fn put_digits(number: usize, count: usize, out: &mut [u8])
     ensures { out.new ≡ placed (digits count number) out.old }
 {
     let mut rest = number;
-    let mut i = count;
-    while 0 < i {
-        i -= 1;
-        out[i] = 48 + (rest % 10) as u8;
-        rest = rest / 10;
+    for i in (0..count).rev() {
+        out[i] = b'0' + (rest % 10) as u8;
+        rest /= 10;
     }
 }

@@ -10,7 +10,6 @@ ghost use Rattle.layout.specs.Layout.{Readable};
 ghost use Rattle.decoding.specs.Decoding.{rule_at, rule_in, left_in, right_in};
 
 use layout::{KIND, TABLE, TABLE_END};
-use slices::wide;
 
 // A symbol's number and what stands beside it; or the left and the right half of a pair.
 #[derive(Clone, Copy)]
@@ -29,7 +28,7 @@ pub fn rule_of(words: &[u32], r: usize) -> Rule
     if x < KIND {
         return Rule::Symbol(x, y % KIND);
     }
-    Rule::Pair(wide(x % KIND), wide(y % KIND))
+    Rule::Pair((x % KIND) as usize, (y % KIND) as usize)
 }
 
 // Rule r of the table that is loaded in the work slice.
@@ -45,7 +44,7 @@ pub fn left_in(work: &[u32], r: usize) -> usize
     requires { Readable work.now r }
     ensures { result ≡ left_in work.now r }
 {
-    wide(work[TABLE + 2 * r] % KIND)
+    (work[TABLE + 2 * r] % KIND) as usize
 }
 
 // The right half of rule r, where it is a pair.
@@ -53,7 +52,7 @@ pub fn right_in(work: &[u32], r: usize) -> usize
     requires { Readable work.now r }
     ensures { result ≡ right_in work.now r }
 {
-    wide(work[TABLE + 2 * r + 1] % KIND)
+    (work[TABLE + 2 * r + 1] % KIND) as usize
 }
 
 // The chair number of a table: it stands beside the symbol of rule 0.

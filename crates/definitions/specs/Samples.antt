@@ -3,12 +3,9 @@
 -- with live cuts that S-3 does not list; and the tests of S-4, in `abab` those of a rule that stands twice in the tree and of one whose left half is the mark;
 -- first differences of tails (S-5); drives rearranged to steps and searched by them (S-6); drives in the nine-heading profile and others, and what the desk report prints of them (S-7);
 -- and censuses of drives on both sides of 128, of drives shorter than the runs or just as long, and of equal samples, and what the census report prints (S-8): by computation, under one claim.
-use Rattle.std.specs.Prelude.{ℕ, ◌+◌, ◌-◌, Bool, true, false, cond, not, ◌&&◌, List, [], ◌∷◌, ◌++◌, map, length, drop, get_or, replicate, eqb}
+use Rattle.std.specs.Prelude.{Ok, Err, ℕ, ◌+◌, ◌-◌, Bool, true, false, cond, not, ◌&&◌, List, [], ◌∷◌, ◌++◌, map, length, drop, get_or, replicate, eqb}
 use Rattle.definitions.specs.declared.Content.TheVariants.{Samples, Steps}
-use Rattle.definitions.specs.declared.Answer.{Answer}
-use Rattle.definitions.specs.declared.ReadAnswer.{ReadAnswer}
-use Rattle.definitions.specs.declared.ReadAnswer.TheVariants as read
-use Rattle.definitions.specs.declared.Answer.TheVariants.{Done, Refused}
+use Rattle.definitions.specs.declared.Refusal.TheVariants.{TextTooLong, PatternEmpty, PatternTooLong, WorkTooShort, TableLength, BadWord, NotATable, RangePastEnd, ResultTooShort, NoStep, OffHeading, NotAtRest, OddWindow}
 use Rattle.definitions.specs.Words.{least, same, lexlt, first_difference, lyndon, lyndon_length, lyndon_array}
 use Rattle.definitions.specs.Grammar.{rules_of}
 use Rattle.definitions.specs.Table.{rank_of, marked, table_of, bad_word, is_pair, left_half, right_half, text_of, chair_of, is_drive, is_table}
@@ -16,7 +13,7 @@ use Rattle.definitions.specs.Occurrences.{occurrences, live_cuts, pattern_cuts, 
 use Rattle.definitions.specs.Steps.{to_steps, from_steps, step_finds, searched, finds}
 use Rattle.definitions.specs.Profile.{first_off, is_profile}
 use Rattle.definitions.specs.Census.{census_runs, census_counts, joined, total}
-use Rattle.definitions.specs.Services.{Outcome, done, refused, read_outcome, search_of, Service, outcome, outcome_of, slices_after, sample_order, former_order, build_service, check_service, build_profile_service, check_profile_service, read_service, extract_service, count_service, locate_service, cuts_service, lyndon_length_service, lyndon_array_service, convert_order_service, to_steps_service, from_steps_service, census_service}
+use Rattle.definitions.specs.Services.{Answer, ReadAnswer, Outcome, done, refused, read_outcome, alone, tests_made, Service, outcome, outcome_of, slices_after, sample_order, former_order, build_service, check_service, build_profile_service, check_profile_service, read_service, extract_service, count_service, locate_service, cuts_service, lyndon_length_service, lyndon_array_service, convert_order_service, to_steps_service, from_steps_service, census_service}
 use Rattle.definitions.specs.Replies.{reply_of, search_reply_of, content_of}
 use Rattle.definitions.specs.Programs.{decimal, motif_output, desk_output, census_output}
 
@@ -201,7 +198,7 @@ holds (clears s b) = eqb (get_or (get_or (slices_after s) 0 []) 0 8) (cond b 0 7
 holds (works s l) = same (edges (get_or (slices_after s) 0 [])) l
 holds (answers r number place count) = same (parts (outcome_of r)) (number ∷ place ∷ count ∷ 0 ∷ [])
 holds (reads r number place count chair) = same (parts (read_outcome r)) (number ∷ place ∷ count ∷ chair ∷ [])
-holds (searches o r tests) = let s = search_of o in same (parts (outcome_of s.answer)) (parts (outcome_of r)) && eqb s.tests tests
+holds (searches o r tests) = same (parts (alone o)) (parts (outcome_of r)) && eqb (tests_made o) tests
 holds (replies o number chair place count) = let r = reply_of o in same (r.number ∷ r.chair ∷ r.place ∷ r.count ∷ []) (number ∷ chair ∷ place ∷ count ∷ [])
 holds (found o number chair place count tests) =
     let r = search_reply_of o in same (r.number ∷ r.chair ∷ r.place ∷ r.count ∷ r.tests ∷ []) (number ∷ chair ∷ place ∷ count ∷ tests ∷ [])
@@ -492,12 +489,24 @@ samples =
     ∷ clears (convert_order_service former_order sample_order of_rising room []) true
     ∷ clears (convert_order_service former_order sample_order of_rising_before room (replicate 9 7)) true
     ∷ clears (convert_order_service former_order sample_order (drop 2 of_rising) room []) false
-    ∷ answers (Done 5) 0 0 5
-    ∷ answers (Refused 6 5) 6 5 0
-    ∷ reads (read.Done 5 40) 0 0 5 40
-    ∷ reads (read.Refused 6 5) 6 5 0 0
-    ∷ searches (done 5 8) (Done 5) 8
-    ∷ searches (refused 6 5) (Refused 6 5) 0
+    ∷ answers (Ok 5) 0 0 5
+    ∷ answers (Err TextTooLong) 1 0 0
+    ∷ answers (Err PatternEmpty) 2 0 0
+    ∷ answers (Err PatternTooLong) 3 0 0
+    ∷ answers (Err WorkTooShort) 4 0 0
+    ∷ answers (Err TableLength) 5 0 0
+    ∷ answers (Err (BadWord 5)) 6 5 0
+    ∷ answers (Err NotATable) 7 0 0
+    ∷ answers (Err RangePastEnd) 8 0 0
+    ∷ answers (Err (ResultTooShort 5)) 9 5 0
+    ∷ answers (Err NoStep) 10 0 0
+    ∷ answers (Err (OffHeading 5)) 11 5 0
+    ∷ answers (Err NotAtRest) 12 0 0
+    ∷ answers (Err OddWindow) 13 0 0
+    ∷ reads (Ok (record { samples = 5; chair = 40 })) 0 0 5 40
+    ∷ reads (Err (BadWord 5)) 6 5 0 0
+    ∷ searches (done 5 8) (Ok 5) 8
+    ∷ searches (refused 6 5) (Err (BadWord 5)) 0
     ∷ replies (done 5 40) 0 40 0 5
     ∷ replies (refused 6 5) 6 0 5 0
     ∷ found (done 5 8) 0 0 0 5 8

@@ -1,14 +1,13 @@
 -- What each service answers and leaves in the slices lent to it (document 01, "When a request is turned down"; document 02, S-1 to S-8).
 -- A service's checks are an ordered list; the first that is met decides number, place and what becomes of each lent slice.
-use Rattle.std.specs.Prelude.{ℕ, ◌+◌, ◌%◌, Bool, true, false, cond, not, ◌||◌, ◌≡◌, List, [], ◌∷◌, ◌++◌, map, length, take, drop, replicate, ltb, eqb}
+use Rattle.std.specs.Prelude.{Result, Ok, Err, ℕ, ◌+◌, ◌%◌, Bool, true, false, cond, not, ◌||◌, ◌≡◌, List, [], ◌∷◌, ◌++◌, map, length, take, drop, replicate, ltb, eqb}
 use Rattle.definitions.specs.declared.Order.{Order}
 use Rattle.definitions.specs.declared.Order.TheVariants.{Unsigned, Signed}
 use Rattle.definitions.specs.declared.Content.{Content}
 use Rattle.definitions.specs.declared.Content.TheVariants.{Samples, Steps}
-use Rattle.definitions.specs.declared.Answer.{Answer}
-use Rattle.definitions.specs.declared.Answer.TheVariants as answer
-use Rattle.definitions.specs.declared.ReadAnswer.{ReadAnswer}
-use Rattle.definitions.specs.declared.ReadAnswer.TheVariants as read
+use Rattle.definitions.specs.declared.Refusal.{Refusal}
+use Rattle.definitions.specs.declared.Refusal.TheVariants.{TextTooLong, PatternEmpty, PatternTooLong, WorkTooShort, TableLength, BadWord, NotATable, RangePastEnd, ResultTooShort, NoStep, OffHeading, NotAtRest, OddWindow}
+use Rattle.definitions.specs.declared.ReadBack.{ReadBack}
 use Rattle.definitions.specs.declared.Search.{Search}
 use Rattle.definitions.specs.Words.{least, placed, lyndon_length, lyndon_array}
 use Rattle.definitions.specs.Table.{rank_of, table_of, bad_word, is_table, text_of, chair_of, rule_count}
@@ -26,19 +25,61 @@ pub data Outcome : Type 0 where
   -- a refusal: its number and place
   refused : ℕ → ℕ → Outcome
 
+-- the number of each refusal, and its place
+unfoldable pub refusal_number : Refusal → ℕ
+refusal_number TextTooLong = 1
+refusal_number PatternEmpty = 2
+refusal_number PatternTooLong = 3
+refusal_number WorkTooShort = 4
+refusal_number TableLength = 5
+refusal_number (BadWord at) = 6
+refusal_number NotATable = 7
+refusal_number RangePastEnd = 8
+refusal_number (ResultTooShort needed) = 9
+refusal_number NoStep = 10
+refusal_number (OffHeading at) = 11
+refusal_number NotAtRest = 12
+refusal_number OddWindow = 13
+
+unfoldable pub refusal_place : Refusal → ℕ
+refusal_place TextTooLong = 0
+refusal_place PatternEmpty = 0
+refusal_place PatternTooLong = 0
+refusal_place WorkTooShort = 0
+refusal_place TableLength = 0
+refusal_place (BadWord at) = at
+refusal_place NotATable = 0
+refusal_place RangePastEnd = 0
+refusal_place (ResultTooShort needed) = needed
+refusal_place NoStep = 0
+refusal_place (OffHeading at) = at
+refusal_place NotAtRest = 0
+refusal_place OddWindow = 0
+
+-- what a service answers with, and reading a table back
+abbrev pub Answer : Type 0
+Answer = Result ℕ Refusal
+
+abbrev pub ReadAnswer : Type 0
+ReadAnswer = Result ReadBack Refusal
+
 -- the outcome that each answer stands for
 unfoldable pub outcome_of : Answer → Outcome
-outcome_of (answer.Done n) = done n 0
-outcome_of (answer.Refused number place) = refused number place
+outcome_of (Ok n) = done n 0
+outcome_of (Err r) = refused (refusal_number r) (refusal_place r)
 
 unfoldable pub read_outcome : ReadAnswer → Outcome
-read_outcome (read.Done n chair) = done n chair
-read_outcome (read.Refused number place) = refused number place
+read_outcome (Ok b) = done b.samples b.chair
+read_outcome (Err r) = refused (refusal_number r) (refusal_place r)
 
--- and the record that a search answers with: a refused one makes no tests
-unfoldable pub search_of : Outcome → Search
-search_of (done n made) = record { answer = answer.Done n; tests = made }
-search_of (refused number place) = record { answer = answer.Refused number place; tests = 0 }
+-- an outcome without the number beside, and the number of tests of a search: a refused one makes none
+unfoldable pub alone : Outcome → Outcome
+alone (done n beside) = done n 0
+alone (refused number place) = refused number place
+
+unfoldable pub tests_made : Outcome → ℕ
+tests_made (done n made) = made
+tests_made (refused number place) = 0
 
 -- ---- checks
 
@@ -102,8 +143,10 @@ Answers r o = outcome_of r ≡ o
 abbrev pub Reads : ReadAnswer → Outcome → Type 0
 Reads r o = read_outcome r ≡ o
 
-abbrev pub Searches : Search → Outcome → Type 0
-Searches r o = r ≡ search_of o
+-- of the record of a search, its answer and its tests
+pub record Searches (s : Search) (o : Outcome) : Type 0 where
+  pub answer : outcome_of s.answer ≡ alone o
+  pub tests : s.tests ≡ tests_made o
 
 -- ---- the checks: when met, number, place, whether the work slice is cleared
 

@@ -1,13 +1,13 @@
 -- The walk over a bucket: at each turn no rule from r on has the words that are looked for, so the newest such rule is among the first r.
 use mathlib.Core.Path.{◌≡◌, refl, sym, ◌∙◌, ap, ap₂, subst}
-use mathlib.Core.Bool.{true, false, ◌&&◌}
+use mathlib.Core.Bool.{true, false}
 use mathlib.Core.List.{List}
 use Prim.Native.Nat.{ℕ, suc, ◌+◌, ◌-◌, ◌*◌, ◌≤◌, ◌<◌}
 use native.Mathlib.Omega.{arith}
 use lib.ListN.{get_or}
 use lib.Dec.{eqb}
-use borrow.Author.Tests.{eqb-true, eq-eqb, ne_eqb}
-use Rattle.lists.specs.Bools.{not_so, and_left, and_right, and_intro}
+use borrow.Author.Tests.{eqb-true, eq-eqb}
+use Rattle.lists.specs.Bools.{and_left, and_right}
 use Rattle.lists.specs.Newest.{latest, has_words, latest_true, latest_false, latest_le, latest_holds, latest_skip}
 use Rattle.dict.specs.Dictionary.{bucket_of, in_bucket, Dict}
 
@@ -20,27 +20,6 @@ rule_bucket t x y k e =
     (ap₂ {C = ℕ} (λ a b. bucket_of a b)
     (eqb-true (get_or t (2 * k) 0) x (and_left (eqb (get_or t (2 * k) 0) x) (eqb (get_or t (2 * k + 1) 0) y) e))
     (eqb-true (get_or t (2 * k + 1) 0) y (and_right (eqb (get_or t (2 * k) 0) x) (eqb (get_or t (2 * k + 1) 0) y) e)))
-
--- the words of rule r - 1 stand at 2 r - 2 and behind
-first_at : (r : ℕ) → 0 < r → 2 * (r - 1) ≡ 2 * r - 2
-first_at r h = omega arith
-
-pub rule_here : (t : List ℕ) (x y r : ℕ) → 0 < r → get_or t (2 * r - 2) 0 ≡ x → get_or t (2 * r - 2 + 1) 0 ≡ y → has_words t x y (r - 1) ≡ true
-unfolding has_words
-rule_here t x y r h e f =
-    rw (first_at r h)
-    (and_intro (eqb (get_or t (2 * r - 2) 0) x) (eqb (get_or t (2 * r - 2 + 1) 0) y) (eq-eqb (get_or t (2 * r - 2) 0) x e) (eq-eqb (get_or t (2 * r - 2 + 1) 0) y f))
-
-pub first_differs : (t : List ℕ) (x y r : ℕ) → 0 < r → (get_or t (2 * r - 2) 0 ≡ x → ⊥) → has_words t x y (r - 1) ≡ false
-unfolding has_words
-first_differs t x y r h n = rw (first_at r h, ne_eqb (get_or t (2 * r - 2) 0) x n)
-
-pub second_differs : (t : List ℕ) (x y r : ℕ) → 0 < r → (get_or t (2 * r - 2 + 1) 0 ≡ y → ⊥) → has_words t x y (r - 1) ≡ false
-unfolding has_words
-second_differs t x y r h n =
-    rw (first_at r h)
-    (not_so (eqb (get_or t (2 * r - 2) 0) x && eqb (get_or t (2 * r - 2 + 1) 0) y)
-    (λ e. n (eqb-true (get_or t (2 * r - 2 + 1) 0) y (and_right (eqb (get_or t (2 * r - 2) 0) x) (eqb (get_or t (2 * r - 2 + 1) 0) y) e))))
 
 -- ---- the walk
 
@@ -63,7 +42,7 @@ pub walk_start : (t links : List ℕ) (n x y r : ℕ) → Dict t links n → buc
 walk_start t links n x y r d h e = subst (Walk t n x y) (sym (e ∙ d.heads (bucket_of x y) h)) (skip t n n x y (omega arith) refl)
 
 -- rule r - 1 has other words
-pub walk_next : (t links : List ℕ) (n x y r s : ℕ) → Dict t links n → Walk t n x y r → 0 < r → has_words t x y (r - 1) ≡ false → s ≡ get_or links (1023 + r) 0
+pub walk_next : (t links : List ℕ) (n x y r s : ℕ) → Dict t links n → Walk t n x y r → 0 < r → has_words t x y (r - 1) ≡ false → s ≡ get_or links (1024 + (r - 1)) 0
     → Walk t n x y s × (s < r)
 unfolding in_bucket
 walk_next t links n x y r s d w h f e = (
@@ -77,24 +56,20 @@ walk_next t links n x y r s d w h f e = (
     back : r ≡ suc q
     back = omega arith
 
-    place : 1023 + r ≡ 1024 + q
-    place = omega arith
-
     next : s ≡ latest (in_bucket t (bucket_of x y)) q
     next =
         e
-        ∙ ap (λ (k : ℕ). get_or links k 0) place
         ∙ d.nexts q (omega (arith, w.most))
         ∙ ap (λ (b : ℕ). latest (in_bucket t b) q) (eqb-true (bucket_of (get_or t (2 * q) 0) (get_or t (2 * q + 1) 0)) (bucket_of x y) (w.bucket q back))
 
 -- rule r - 1 has the words
-pub walk_found : (t : List ℕ) (n x y r : ℕ) → Walk t n x y r → 0 < r → has_words t x y (r - 1) ≡ true → r ≡ latest (has_words t x y) n
-walk_found t n x y r w h f = sym (w.rest ∙ ap (latest (has_words t x y)) back ∙ latest_true (has_words t x y) (r - 1) f ∙ sym back)
+pub walk_found : (t : List ℕ) (n x y r : ℕ) → Walk t n x y r → 0 < r → has_words t x y (r - 1) ≡ true → latest (has_words t x y) n ≡ suc (r - 1)
+walk_found t n x y r w h f = w.rest ∙ ap (latest (has_words t x y)) back ∙ latest_true (has_words t x y) (r - 1) f
   where
     back : r ≡ suc (r - 1)
     back = omega arith
 
 -- nothing is left
-pub walk_ended : (t : List ℕ) (n x y r : ℕ) → Walk t n x y r → r ≡ 0 → 0 ≡ latest (has_words t x y) n
+pub walk_ended : (t : List ℕ) (n x y r : ℕ) → Walk t n x y r → r ≡ 0 → latest (has_words t x y) n ≡ 0
 unfolding latest
-walk_ended t n x y r w z = sym (w.rest ∙ ap (latest (has_words t x y)) z)
+walk_ended t n x y r w z = w.rest ∙ ap (latest (has_words t x y)) z

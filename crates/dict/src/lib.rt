@@ -2,27 +2,32 @@
 #![tactic(auto)]
 
 ghost use Rattle.std.specs.Prelude.{◌≡◌, ℕ, ◌+◌, ◌*◌, ◌≤◌, ◌<◌, length, get_or, set};
-ghost use Rattle.lists.specs.Newest.{latest, has_words};
-ghost use Rattle.dict.specs.Dictionary.{bucket_of, Dict};
+ghost use Rattle.lists.specs.Newest.{has_words};
+ghost use Rattle.dict.specs.Dictionary.{bucket_of, Dict, IsLatest};
 
-use slices::wide;
-
-// One more than the newest rule with the words x and y, 0 if there is none.
-pub fn find<'a>(rules: &'a [u32], links: &'a [u32], x: u32, y: u32) -> usize
+// The newest rule with the words x and y.
+pub fn find<'a>(rules: &'a [u32], links: &'a [u32], x: u32, y: u32) -> Option<usize>
     requires { (n : ℕ) × Dict rules.now links.now n × (2 * n ≤ length rules.now) × (1024 + n ≤ length links.now) }
-    ensures { (n : ℕ) → Dict rules.now links.now n → result ≡ latest (has_words rules.now x y) n }
+    ensures { (n : ℕ) → Dict rules.now links.now n → IsLatest (has_words rules.now x y) n result }
 {
-    let mut r = wide(links[bucket(x, y)]);
-    while 0 < r {
-        let k = 2 * r - 2;
-        if rules[k] == x {
-            if rules[k + 1] == y {
-                return r;
-            }
+    let mut next = links[bucket(x, y)] as usize;
+    while next != 0 {
+        let r = next - 1;
+        if has_words(rules, r, x, y) {
+            return Some(r);
         }
-        r = wide(links[1023 + r]);
+        next = links[1024 + r] as usize;
     }
-    0
+    None
+}
+
+// Whether the words of rule r are x and y.
+#[tactic(auto, unfolding(lists::specs::Newest::has_words))]
+fn has_words(rules: &[u32], r: usize, x: u32, y: u32) -> bool
+    requires { 2 * r + 1 < length rules.now }
+    ensures { result ≡ has_words rules.now x y r }
+{
+    rules[2 * r] == x && rules[2 * r + 1] == y
 }
 
 // Links rule n, with the words x and y, into its bucket; the links begin at `links`.
@@ -31,8 +36,7 @@ pub fn link(work: &mut [u32], links: usize, n: usize, x: u32, y: u32)
     ensures { work.new ≡ set (set work.old (links + 1024 + n) (get_or work.old (links + bucket_of x y) 0)) (links + bucket_of x y) (n + 1) }
 {
     let b = links + bucket(x, y);
-    let old = work[b];
-    work[links + 1024 + n] = old;
+    work[links + 1024 + n] = work[b];
     work[b] = n as u32 + 1;
 }
 
@@ -46,8 +50,10 @@ pub fn store(work: &mut [u32], rules: usize, n: usize, x: u32, y: u32)
 }
 
 // The bucket of the words x and y.
+#[tactic(auto, unfolding(crate::specs::Dictionary::bucket_of))]
 fn bucket(x: u32, y: u32) -> usize
-    ensures { result ≡ bucket_of x y }
+    ensures value { result ≡ bucket_of x y }
+    ensures small { result < 1024 }
 {
     let h = x as u64 * 1640531527 + y as u64 * 374761392;
     (h / 2097152 % 1024) as usize

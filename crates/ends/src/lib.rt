@@ -5,7 +5,7 @@
 // stands for the stack of words. Comparing costs about n * n / 8 symbol steps on the worst text known, (a^k b)^2.
 #![tactic(auto)]
 
-ghost use Rattle.std.specs.Prelude.{◌≡◌, suc, ◌+◌, ◌≤◌, ◌<◌, length, get_or, set, drop};
+ghost use Rattle.std.specs.Prelude.{◌≡◌, suc, ◌+◌, ◌≤◌, ◌<◌, length, get_or, drop};
 ghost use Rattle.definitions.specs.Words.{placed};
 ghost use Rattle.definitions.specs.Table.{marked};
 ghost use Rattle.lists.specs.Parts.{part};
@@ -16,7 +16,6 @@ ghost use Rattle.ends.specs.Areas.{Ended, Merged};
 use compare::before;
 use definitions::Order;
 use layout::{CLOSINGS, LONGEST};
-use slices::{put, wide};
 
 // Places the marked text at the front of the work slice.
 pub fn place_text(order: Order, text: &[u8], work: &mut [u32])
@@ -25,7 +24,7 @@ pub fn place_text(order: Order, text: &[u8], work: &mut [u32])
 {
     let n = text.len() + 1;
     ranks::write(order, text, &mut work[1..n]);
-    put(work, 0, 0);
+    work[0] = 0;
 }
 
 // The lengths of the longest Lyndon words of the n ranks at the front, and the closings.
@@ -33,9 +32,7 @@ pub fn ends(work: &mut [u32], n: usize)
     requires { (n ≤ 2048) × (WORK ≤ length work.old) }
     ensures { Ended (part 0 n work.old) 0 work.new }
 {
-    let mut i = n;
-    while 0 < i {
-        i -= 1;
+    for i in (0..n).rev() {
         end_at(work, n, i);
     }
 }
@@ -45,9 +42,9 @@ fn end_at(work: &mut [u32], n: usize, i: usize)
     requires { (n ≤ 2048) × (WORK ≤ length work.old) × (i < n) × Ended (part 0 n work.old) (suc i) work.old }
     ensures { Ended (part 0 n work.old) i work.new }
 {
-    put(work, CLOSINGS + i, 0);
+    work[CLOSINGS + i] = 0;
     let j = merge(work, n, i);
-    put(work, LONGEST + i, (j - i) as u32);
+    work[LONGEST + i] = (j - i) as u32;
 }
 
 // Joins the word at i with the words behind it while it is smaller than the next. Answers where it ends.
@@ -57,20 +54,12 @@ fn merge(work: &mut [u32], n: usize, i: usize) -> usize
 {
     let mut j = i + 1;
     while j < n {
-        let k = wide(work[LONGEST + j]);
-        if !before(&work[0..n], i, j, k) {
+        let k = work[LONGEST + j] as usize;
+        if !before(&work[..n], i, j, k) {
             return j;
         }
-        bump(work, CLOSINGS + j + k - 1);
+        work[CLOSINGS + j + k - 1] += 1;
         j += k;
     }
     j
-}
-
-// Adds one.
-fn bump(work: &mut [u32], at: usize)
-    requires { (at < length work.old) × (get_or work.old at 0 < 4096) }
-    ensures { work.new ≡ set work.old at (get_or work.old at 0 + 1) }
-{
-    work[at] = work[at] + 1;
 }

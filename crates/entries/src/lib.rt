@@ -14,7 +14,6 @@ ghost use Rattle.entries.specs.Entries.{entered, Entered, Placed, Unmet};
 
 use decoding::{Rule, rule_of};
 use layout::{ENTRIES, LENGTHS, PLACES};
-use slices::{put, wide};
 
 // Enters every rule; or the root does not meet them in their order, and the table is no drive's.
 pub fn enter_all(table: &[u32], work: &mut [u32]) -> bool
@@ -30,9 +29,7 @@ fn enter_below(table: &[u32], work: &mut [u32]) -> bool
     requires { Entered table.now (rule_count table.now) work.old }
     ensures { (result ≡ true → Placed table.now work.new) × (result ≡ false → Unmet table.now) }
 {
-    let mut r = table.len() / 2;
-    while 0 < r {
-        r -= 1;
+    for r in (0..table.len() / 2).rev() {
         if !enter_halves(table, work, r) {
             return false;
         }
@@ -45,17 +42,14 @@ fn enter_halves(table: &[u32], work: &mut [u32], r: usize) -> bool
     requires { Entered table.now (r + 1) work.old × (r < rule_count table.now) }
     ensures { (result ≡ true → Entered table.now r work.new) × (result ≡ false → Unmet table.now) }
 {
-    let rule = rule_of(table, r);
-    let e = wide(work[ENTRIES + r]);
-    match rule {
-        Rule::Symbol(_, _) => {
-            return e == r;
-        }
+    let e = work[ENTRIES + r] as usize;
+    match rule_of(table, r) {
+        Rule::Symbol(_, _) => e == r,
         Rule::Pair(left, right) => {
             let start = work[PLACES + r];
             let behind = start + work[LENGTHS + left];
             let d = enter(work, left, e, start);
-            return enter(work, right, d, behind) == r;
+            enter(work, right, d, behind) == r
         }
     }
 }
@@ -68,7 +62,7 @@ fn enter(work: &mut [u32], q: usize, e: usize, place: u32) -> usize
     if q < e {
         return e;
     }
-    put(work, ENTRIES + q, e as u32);
-    put(work, PLACES + q, place);
+    work[ENTRIES + q] = e as u32;
+    work[PLACES + q] = place;
     q + 1
 }

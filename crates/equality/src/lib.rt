@@ -25,17 +25,15 @@ pub fn equal<'a>(x: &'a [u32], y: &'a [u32]) -> bool
     equal_by_sixteen(x, y)
 }
 
-// Whether their first n words are the same, one after the other, up to the first that differs.
+// Whether their first n words are the same, one after the other, up to the first that differs: `==` of the two fronts would be a call at every test.
 fn equal_front<'a>(x: &'a [u32], y: &'a [u32], n: usize) -> bool
     requires { (n ≤ length x.now) × (n ≤ length y.now) }
     ensures { result ≡ same (take n x.now) (take n y.now) }
 {
-    let mut i = 0;
-    while i < n {
+    for i in 0..n {
         if x[i] != y[i] {
             return false;
         }
-        i += 1;
     }
     true
 }
@@ -46,18 +44,13 @@ fn equal_by_sixteen<'a>(x: &'a [u32], y: &'a [u32]) -> bool
     ensures { result ≡ same x.now y.now }
 {
     let n = x.len();
-    let blocks = n / 16;
-    let mut i = 0;
-    while i < blocks {
+    for i in 0..n / 16 {
         let a = 16 * i;
-        let b = a + 16;
-        if !equal_many(&x[a..b], &y[a..b]) {
+        if !equal_many(&x[a..a + 16], &y[a..a + 16]) {
             return false;
         }
-        i += 1;
     }
-    let a = n - 16;
-    equal_many(&x[a..n], &y[a..n])
+    equal_many(&x[n - 16..], &y[n - 16..])
 }
 
 // Whether two slices of one length hold the same words: the loop goes to the end, so that the compiler may compare several words at once.
@@ -66,10 +59,8 @@ pub fn equal_many<'a>(x: &'a [u32], y: &'a [u32]) -> bool
     ensures { result ≡ same x.now y.now }
 {
     let mut alike = true;
-    let mut i = 0;
-    while i < x.len() {
-        alike = alike & (x[i] == y[i]);
-        i += 1;
+    for (i, word) in x.iter().enumerate() {
+        alike &= *word == y[i];
     }
     alike
 }

@@ -1,13 +1,11 @@
 -- The walk that expands a table's root: what is written, what the current rule spells and what the pending rules spell are together
 -- what the table spells.
-use Rattle.std.specs.Prelude.{◌≡◌, List, [], ◌++◌, ℕ, zero, suc, ◌+◌, ◌≤◌, ◌<◌, length, get_or}
+use Rattle.std.specs.Prelude.{◌≡◌, List, [], ◌++◌, ℕ, zero, suc, ◌+◌, ◌≤◌, ◌<◌, length, get_or, Option, Some, None}
 use Rattle.definitions.specs.declared.Order.{Order}
 use Rattle.definitions.specs.Table.{rule_string, spelled, rule_count}
 use Rattle.lists.specs.Parts.{part}
 use Rattle.lyndon.specs.Shapes.{Shaped}
 use Rattle.layout.specs.Layout.{STACK, WORK}
-use Rattle.expansion.specs.declared.Expansion.{Expansion}
-use Rattle.expansion.specs.declared.Expansion.TheVariants.{Ranks, TooLong}
 use Rattle.expansion.specs.declared.Turn.{Turn}
 use Rattle.expansion.specs.declared.Turn.TheVariants.{Next, Whole}
 
@@ -37,6 +35,6 @@ Stepped o t w written pending (Next p) =
 Stepped o t w written pending (Whole n) = (0 < n) × (n ≤ 2048) × (part 0 n w ≡ spelled o t)
 
 -- so many symbols are written and are all that the table spells; or it spells more than 2,048
-abbrev pub Expanded : Order → List ℕ → List ℕ → Expansion → Type 0
-Expanded o t w (Ranks n) = (0 < n) × (n ≤ 2048) × (part 0 n w ≡ spelled o t)
-Expanded o t w TooLong = 2048 < length (spelled o t)
+abbrev pub Expanded : Order → List ℕ → List ℕ → Option ℕ → Type 0
+Expanded o t w (Some n) = (0 < n) × (n ≤ 2048) × (part 0 n w ≡ spelled o t)
+Expanded o t w None = 2048 < length (spelled o t)

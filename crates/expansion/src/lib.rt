@@ -14,14 +14,6 @@ use decoding::{Rule, rule_of};
 use definitions::Order;
 use layout::STACK;
 use ranks::rank_of_number;
-use slices::{put, wide};
-
-// The root is so many ranks, or more than 2,048.
-#[derive(Clone, Copy)]
-pub enum Expansion {
-    Ranks(usize),
-    TooLong,
-}
 
 // Where the walk over a table stands: a rule to spell, so many symbols written, so many rules pending.
 #[derive(Clone, Copy)]
@@ -37,8 +29,8 @@ pub enum Turn {
     Whole(usize),
 }
 
-// Expands the root to ranks at the front of the work slice.
-pub fn expand(order: Order, table: &[u32], work: &mut [u32]) -> Expansion
+// Expands the root to ranks at the front of the work slice, and answers how many they are; None if they are more than 2,048.
+pub fn expand(order: Order, table: &[u32], work: &mut [u32]) -> Option<usize>
     requires { Shaped table.now × (length table.now ≤ 4608) × (WORK ≤ length work.old) }
     ensures { Expanded order table.now work.new result }
 {
@@ -49,17 +41,12 @@ pub fn expand(order: Order, table: &[u32], work: &mut [u32]) -> Expansion
         pending: 0,
     };
     while p.written + p.pending < 2048 {
-        let t = expand_rule(order, table, work, p);
-        match t {
-            Turn::Next(q) => {
-                p = q;
-            }
-            Turn::Whole(n) => {
-                return Expansion::Ranks(n);
-            }
+        match expand_rule(order, table, work, p) {
+            Turn::Next(q) => p = q,
+            Turn::Whole(n) => return Some(n),
         }
     }
-    Expansion::TooLong
+    None
 }
 
 // One rule of the walk: a symbol is written and the next pending rule taken up, of a pair the right half is left pending.
@@ -67,29 +54,30 @@ fn expand_rule(order: Order, table: &[u32], work: &mut [u32], p: Place) -> Turn
     requires { Expandable order table.now work.old p.rule p.written p.pending }
     ensures { Stepped order table.now work.new p.written p.pending result }
 {
-    let n = p.written;
-    let d = p.pending;
-    let rule = rule_of(table, p.rule);
-    match rule {
+    let Place {
+        written,
+        pending,
+        ..
+    } = p;
+    match rule_of(table, p.rule) {
         Rule::Symbol(number, _) => {
-            put(work, n, symbol_rank(order, number));
-            if d == 0 {
-                return Turn::Whole(n + 1);
+            work[written] = symbol_rank(order, number);
+            if pending == 0 {
+                return Turn::Whole(written + 1);
             }
-            let next = wide(work[STACK + d - 1]);
-            return Turn::Next(Place {
-                rule: next,
-                written: n + 1,
-                pending: d - 1,
-            });
+            Turn::Next(Place {
+                rule: work[STACK + pending - 1] as usize,
+                written: written + 1,
+                pending: pending - 1,
+            })
         }
         Rule::Pair(left, right) => {
-            put(work, STACK + d, right as u32);
-            return Turn::Next(Place {
+            work[STACK + pending] = right as u32;
+            Turn::Next(Place {
                 rule: left,
-                written: n,
-                pending: d + 1,
-            });
+                written,
+                pending: pending + 1,
+            })
         }
     }
 }
@@ -100,7 +88,8 @@ fn symbol_rank(order: Order, number: u32) -> u32
     ensures { result ≡ rank_of_number order number }
 {
     if number == 0 {
-        return 0;
+        0
+    } else {
+        rank_of_number(order, number)
     }
-    rank_of_number(order, number)
 }

@@ -50,10 +50,13 @@ pub sample_number : {t : List ℕ} {r a b : ℕ} → SymbolOf t r a b → (get_o
 unfolding word_of
 sample_number {t} {r} {a} p n = (split_le a 0 (λ l. absurd (n (omega (arith, p.first)))) (λ l. l), p.number)
 
--- rule r, which is read to stand at `start`
-module _ {o : Order} {t w : List ℕ} {r : ℕ} (k : Filling o t r w) (h : r < rule_count t) (start : ℕ) (es : start ≡ place_in w r) where
+-- rule r, which stands at `start`
+module _ {o : Order} {t w : List ℕ} {r : ℕ} (k : Filling o t r w) (h : r < rule_count t) where
+  abbrev start : ℕ
+  start = place_in w r
+
   here : Stands (spelled o t) (rule_string o t r) start
-  here = subst (Stands (spelled o t) (rule_string o t r)) (sym es) (k.placed.places r h o)
+  here = k.placed.places r h o
 
   pub place_room : (r < 2304) × (start < 2048)
   place_room =
@@ -70,7 +73,7 @@ module _ {o : Order} {t w : List ℕ} {r : ℕ} (k : Filling o t r w) (h : r < r
         placed = placed_same b k.placed;
         filled = λ q l. split_lt q r
             (λ m. at q (place_in w q) refl (keeps (place_in w q) (length (rule_string o t q)) (k.filled q m)))
-            (λ m. at q start (es ∙ ap (place_in w) (sym m)) (subst (λ (i : ℕ). Filled (spelled o t) v start (length (rule_string o t i))) (sym m) f))
+            (λ m. at q start (ap (place_in w) (sym m)) (subst (λ (i : ℕ). Filled (spelled o t) v start (length (rule_string o t i))) (sym m) f))
             (λ m. absurd (omega arith));
         standard = rw add-one (and_intro (every (ordered o t) r) (ordered o t r) k.standard e);
       }
@@ -78,17 +81,16 @@ module _ {o : Order} {t w : List ℕ} {r : ℕ} (k : Filling o t r w) (h : r < r
   unordered : ordered o t r ≡ false → is_table o t ≡ false
   unordered f = not_so (is_table o t) (λ a. contra (every_at (ordered o t) (rule_count t) ((judged o t k.placed.sized.lent.shaped).0 a).standard r h) f)
 
-  pub symbol_written : (a b : ℕ) → SymbolOf t r a b → (v : List ℕ) (x : ℕ) → x ≡ rank_of_number o a → v ≡ set w start x → Filling o t (r + 1) v
-  symbol_written a b p v x e f =
+  pub symbol_written : (a b : ℕ) → SymbolOf t r a b → (x : ℕ) → x ≡ rank_of_number o a → Filling o t (r + 1) (set w start x)
+  symbol_written a b p x e =
       let low = place_room.1 in
-      let same : v ≡ set w start (rank_of_number o a) = f ∙ ap (set w start) e in
-      rw same
+      rw e
       (more (set w start (rank_of_number o a)) (behind_set w start (rank_of_number o a) low)
       (λ i m g. filled_set (spelled o t) w i m start (rank_of_number o a) 0 (symbol_word o (spelled o t) start here p) g)
       (symbol_filled o (spelled o t) start here p w (omega (arith, k.placed.sized.lent.long)))
       (ordered_symbol o p))
 
-  -- it is a pair, whose right half is read to stand at `behind`
+  -- it is a pair, whose right half stands at `behind`
   module _ (u v : ℕ) (p : PairOf t r u v) where
     left_low : u < rule_count t
     left_low = omega (arith, p.left)
@@ -112,9 +114,12 @@ module _ {o : Order} {t w : List ℕ} {r : ℕ} (k : Filling o t r w) (h : r < r
     pub left_copyable : Copyable w u start
     left_copyable = copyable o t w u start k.placed left_low left_here
 
-    module _ (behind : ℕ) (eb : behind ≡ start + length_in w u) (x : List ℕ) (e : x ≡ copied w (place_in w u) start (length_in w u)) where
+    abbrev behind : ℕ
+    behind = start + length_in w u
+
+    module _ (x : List ℕ) (e : x ≡ copied w (place_in w u) start (length_in w u)) where
       next : behind ≡ start + length (rule_string o t u)
-      next = eb ∙ ap (λ (n : ℕ). start + n) left_size
+      next = ap (λ (n : ℕ). start + n) left_size
 
       right_here : Stands (spelled o t) (rule_string o t v) behind
       right_here = subst (Stands (spelled o t) (rule_string o t v)) (sym next) (half_places o (spelled o t) start here p).1
@@ -167,15 +172,15 @@ module _ (o : Order) (t w : List ℕ) (p : Placed t w) where
   first_low : 0 < rule_count t
   first_low = omega (arith, p.sized.lent.shaped.even, p.sized.lent.shaped.filled)
 
-  pub mark_room : (start : ℕ) → start ≡ place_in w 0 → start < length w
-  mark_room start e = omega (arith, (place_room (fill_start o t w p) first_low start e).1, p.sized.lent.long)
+  pub mark_room : place_in w 0 < length w
+  mark_room = omega (arith, (place_room (fill_start o t w p) first_low).1, p.sized.lent.long)
 
-  pub mark_written : OneMark t → (start : ℕ) → start ≡ place_in w 0 → (v : List ℕ) → v ≡ set w start 0 → Filling o t 1 v
+  pub mark_written : OneMark t → Filling o t 1 (set w (place_in w 0) 0)
   unfolding word_of rank_of_number
-  mark_written m start e v f = go (ruled t p.sized.lent.shaped 0 first_low)
+  mark_written m = go (ruled t p.sized.lent.shaped 0 first_low)
     where
-      go : Ruled t 0 → Filling o t 1 v
+      go : Ruled t 0 → Filling o t 1 (set w (place_in w 0) 0)
       go (symbol a b q) =
           let none : 0 ≡ a = omega (arith, m.mark, q.first) in
-          symbol_written (fill_start o t w p) first_low start e a b q v 0 (ap (rank_of_number o) none) f
+          symbol_written (fill_start o t w p) first_low a b q 0 (ap (rank_of_number o) none)
       go (pair x y q) = absurd (omega (arith, q.left))

@@ -17,15 +17,14 @@ use definitions::Order;
 use halves::in_order;
 use layout::{LENGTHS, PLACES};
 use ranks::rank_of_number;
-use slices::{put, wide};
 
 // Writes every rule at its place, the mark's first; or the halves of one are not in order, and the table is no drive's.
 pub fn fill_all(order: Order, table: &[u32], work: &mut [u32]) -> bool
     requires { Placed table.now work.old × OneMark table.now }
     ensures { (result ≡ true → Filling order table.now (rule_count table.now) work.new) × (result ≡ false → is_table order table.now ≡ false) }
 {
-    let start = wide(work[PLACES]);
-    put(work, start, 0);
+    let start = work[PLACES] as usize;
+    work[start] = 0;
     fill_samples(order, table, work)
 }
 
@@ -34,13 +33,10 @@ fn fill_samples(order: Order, table: &[u32], work: &mut [u32]) -> bool
     requires { Filling order table.now 1 work.old × OneMark table.now }
     ensures { (result ≡ true → Filling order table.now (rule_count table.now) work.new) × (result ≡ false → is_table order table.now ≡ false) }
 {
-    let rules = table.len() / 2;
-    let mut r = 1;
-    while r < rules {
+    for r in 1..table.len() / 2 {
         if !fill_rule(order, table, work, r) {
             return false;
         }
-        r += 1;
     }
     true
 }
@@ -50,18 +46,17 @@ fn fill_rule(order: Order, table: &[u32], work: &mut [u32], r: usize) -> bool
     requires { Filling order table.now r work.old × (r < rule_count table.now) × (get_or table.now (2 * r) 0 ≡ 0 → ⊥) }
     ensures { (result ≡ true → Filling order table.now (r + 1) work.new) × (result ≡ false → is_table order table.now ≡ false) }
 {
-    let rule = rule_of(table, r);
-    let start = wide(work[PLACES + r]);
-    match rule {
+    let start = work[PLACES + r] as usize;
+    match rule_of(table, r) {
         Rule::Symbol(number, _) => {
-            put(work, start, rank_of_number(order, number));
-            return true;
+            work[start] = rank_of_number(order, number);
+            true
         }
         Rule::Pair(left, right) => {
-            let behind = start + wide(work[LENGTHS + left]);
+            let behind = start + work[LENGTHS + left] as usize;
             write_rule(work, left, start);
             write_rule(work, right, behind);
-            return in_order(table, work, left, right, start, behind);
+            in_order(table, work, left, right, start, behind)
         }
     }
 }
@@ -71,13 +66,12 @@ fn write_rule(work: &mut [u32], q: usize, to: usize)
     requires { Copyable work.old q to }
     ensures { work.new ≡ copied work.old (place_in work.old q) to (length_in work.old q) }
 {
-    let from = wide(work[PLACES + q]);
+    let from = work[PLACES + q] as usize;
     if from == to {
         return;
     }
-    let n = wide(work[LENGTHS + q]);
-    let first = work[from];
-    put(work, to, first);
+    let n = work[LENGTHS + q] as usize;
+    work[to] = work[from];
     if n == 1 {
         return;
     }
@@ -89,10 +83,7 @@ fn copy_within(work: &mut [u32], from: usize, to: usize, n: usize)
     requires { (from + n ≤ length work.old) × (to + n ≤ length work.old) }
     ensures { work.new ≡ copied work.old from to n }
 {
-    let mut i = 0;
-    while i < n {
-        let x = work[from + i];
-        work[to + i] = x;
-        i += 1;
+    for i in 0..n {
+        work[to + i] = work[from + i];
     }
 }

@@ -9,7 +9,7 @@ ghost use Rattle.definitions.specs.Occurrences.{occurrences, pattern_cuts, tests
 ghost use Rattle.definitions.specs.Steps.{searched, finds};
 ghost use Rattle.definitions.specs.Services.{Serves, Answers, Searches, sample_order, writes};
 ghost use Rattle.lyndon.specs.Steps.{start_of};
-ghost use Rattle.state.specs.State.{Ready, rules_loaded};
+ghost use Rattle.state.specs.State.{Held};
 ghost use Rattle.listing.specs.Listing.{Finds, rules_counted};
 ghost use Rattle.finding.specs.Counted.{Sought, Counted};
 
@@ -22,7 +22,7 @@ use steps::rearrange;
 // Counts in the text that is loaded, whose table has so many rules: finds and tests.
 pub fn count_loaded(content: Content, pattern: &[u8], rules: usize, work: &mut [u32]) -> Totals
     requires { Sought content pattern.now rules work.old }
-    ensures { (h : Ready work.old) → h.order ≡ sample_order → rules ≡ rules_loaded h → Counted content pattern.now h result work.new }
+    ensures { (h : Held sample_order rules work.old) → Counted content pattern.now h result work.new }
 {
     match content {
         Content::Samples => search::count(SAMPLE_ORDER, pattern, 0, work, rules),
@@ -33,7 +33,7 @@ pub fn count_loaded(content: Content, pattern: &[u8], rules: usize, work: &mut [
 // The same where the text is steps. The pattern's own stand behind its first sample, once it is rearranged.
 fn count_steps(pattern: &[u8], rules: usize, work: &mut [u32]) -> Totals
     requires { Sought Steps pattern.now rules work.old }
-    ensures { (h : Ready work.old) → h.order ≡ sample_order → rules ≡ rules_loaded h → Counted Steps pattern.now h result work.new }
+    ensures { (h : Held sample_order rules work.old) → Counted Steps pattern.now h result work.new }
 {
     let mut steps = [0u8; 2047];
     rearrange(pattern, &mut steps);
@@ -49,7 +49,7 @@ pub fn locate_loaded(
     res: &mut [u32],
 ) -> Search
     requires { Sought content pattern.now rules work.old }
-    ensures { (h : Ready work.old) → h.order ≡ sample_order → rules ≡ rules_loaded h → Serves (writes [] (finds content pattern.now h.text) (length (tests sample_order (table_of sample_order h.text h.chair) (searched content pattern.now))) res.old) (Searches result) (res.new ∷ []) }
+    ensures { (h : Held sample_order rules work.old) → Serves (writes [] (finds content pattern.now h.text) (length (tests sample_order (table_of sample_order h.text h.chair) (searched content pattern.now))) res.old) (Searches result) (res.new ∷ []) }
 {
     let n = count_loaded(content, pattern, rules, work);
     let a = deliver_found(n.occurrences, rules, start_of(content), work, res);
@@ -76,7 +76,7 @@ pub fn deliver_cuts(pattern: &[u8], res: &mut [u32]) -> Answer
     let k = cuts::floor_log2(pattern.len());
     let n = cuts::list(SAMPLE_ORDER, pattern, &mut list[0..k + 1]);
     let a = result_fits(n, res.len());
-    let Answer::Done(_) = a else {
+    let Ok(_) = a else {
         return a;
     };
     slices::copy(&list[0..n], res);
@@ -89,7 +89,7 @@ fn deliver_found(n: usize, rules: usize, from: usize, work: &[u32], res: &mut [u
     ensures { (h : Finds work.now) → rules ≡ rules_counted h → n ≡ length (occurrences h.pattern (drop from h.text)) → Serves (writes [] (occurrences h.pattern (drop from h.text)) 0 res.old) (Answers result) (res.new ∷ []) }
 {
     let fits = result_fits(n, res.len());
-    let Answer::Done(_) = fits else {
+    let Ok(_) = fits else {
         return fits;
     };
     listing::list(work, rules, from, res);

@@ -13,7 +13,6 @@ ghost use Rattle.grammar.specs.Built.{Marked, Built};
 use layout::{BESIDE_SYMBOL, CHAIR};
 use numbering::rules;
 use ranks::SAMPLE_ORDER;
-use slices::put;
 
 // The table of a text, in the table area of the work slice. Answers the number of rules.
 pub fn table(text: &[u8], chair: u16, work: &mut [u32]) -> usize
@@ -32,6 +31,6 @@ pub fn build_table(n: usize, chair: u16, work: &mut [u32]) -> usize
 {
     ends::ends(work, n);
     let r = rules(SAMPLE_ORDER, n, work);
-    put(work, CHAIR, BESIDE_SYMBOL + chair as u32);
+    work[CHAIR] = BESIDE_SYMBOL + chair as u32;
     r
 }

@@ -8,11 +8,9 @@ use native.Mathlib.Omega.{arith}
 use native.Mathlib.Nat.{zero-add}
 use lib.ListN.{length, get_or, length-append}
 use lib.Dec.{ltb}
-use borrow.Author.Tests.{lt-ltb, le-ltb}
 use Rattle.definitions.specs.Words.{lexlt}
 use Rattle.definitions.specs.Table.{rule_string, rule_count}
 use Rattle.lists.specs.Bools.{not_so}
-use Rattle.lists.specs.Numbers.{split_lt}
 use Rattle.lists.specs.Parts.{part, part_length, part_at, part_part}
 use Rattle.lyndon.specs.Lexical.{lt_irrefl, lexlt_lt}
 use Rattle.lyndon.specs.Shapes.{string_filled}
@@ -59,11 +57,11 @@ module _ {t w : List ℕ} {left right start behind : ℕ} (k : Written t w left 
       let f = k.inside in
       (omega arith, omega arith, omega arith, omega arith, omega (arith, both))
 
-  pub halves_test : (b : Bool) (n : ℕ) → n ≡ length_in w right → b ≡ lexlt (part start (behind - start) (front w)) (part behind n (front w))
+  pub halves_test : (b : Bool) → b ≡ lexlt (part start (behind - start) (front w)) (part behind (length_in w right) (front w))
       → b ≡ lexlt (rule_string k.order t left) (rule_string k.order t right)
-  halves_test b n m e =
+  halves_test b e =
       let u : behind - start ≡ length (rule_string k.order t left) = omega (arith, k.next) in
-      let v : n ≡ length (rule_string k.order t right) = m ∙ size right k.pair.right in
+      let v = size right k.pair.right in
       e
       ∙ ap₂ {C = Bool} (λ i j. lexlt (part start i (front w)) (part behind j (front w))) u v
       ∙ ap (λ (j : ℕ). lexlt (part start (length (rule_string k.order t left)) (front w)) (part j (length (rule_string k.order t right)) (front w))) k.next
@@ -106,14 +104,15 @@ module _ {t w : List ℕ} {left right start behind : ℕ} (k : Written t w left 
         let n = size a (omega arith) in
         (omega arith, omega (arith, halves_size))
 
-    pub right_test : (b : Bool) (n i : ℕ) → n ≡ length_in w right → i ≡ start + length_in w a → b ≡ lexlt (part i (behind - i) (front w)) (part behind n (front w))
+    pub right_test : (b : Bool) → let i = start + length_in w a in b ≡ lexlt (part i (behind - i) (front w)) (part behind (length_in w right) (front w))
         → b ≡ lexlt (rule_string k.order t c) (rule_string k.order t right)
-    right_test b n i m f e =
+    right_test b e =
         let l = k.pair.left in
         let h = p.left in
-        let g : i ≡ start + length (rule_string k.order t a) = f ∙ ap (λ (x : ℕ). start + x) (size a (omega arith)) in
+        let i = start + length_in w a in
+        let g : i ≡ start + length (rule_string k.order t a) = ap (λ (x : ℕ). start + x) (size a (omega arith)) in
         let u : behind - i ≡ length (rule_string k.order t c) = omega (arith, k.next, halves_size) in
-        let v : n ≡ length (rule_string k.order t right) = m ∙ size right k.pair.right in
+        let v = size right k.pair.right in
         e
         ∙ ap₂ {C = Bool} (λ x y. lexlt (part i x (front w)) (part behind y (front w))) u v
         ∙ ap₂ {C = Bool} (λ x y. lexlt (part x (length (rule_string k.order t c)) (front w)) (part y (length (rule_string k.order t right)) (front w))) g k.next
@@ -134,10 +133,3 @@ ranks_differ w i j n h l m long d =
     let a = front_at w i (omega arith) in
     let b = front_at w j (omega arith) in
     sym (firsts_differ (front w) i j n h l (omega arith) (λ e. d (sym a ∙ e ∙ b)) ∙ ap₂ {C = Bool} (λ x y. ltb x y) a b)
-
--- of two ranks that differ the second is smaller exactly when the first is not
-pub other_way : (a b : ℕ) → (a ≡ b → ⊥) → ltb b a ≡ not (ltb a b)
-other_way a b d = split_lt a b
-    (λ l. le-ltb b a (omega arith) ∙ sym (ap not (lt-ltb a b l)))
-    (λ e. absurd (d e))
-    (λ l. lt-ltb b a l ∙ sym (ap not (le-ltb a b (omega arith))))

@@ -4,7 +4,7 @@
 // its standard factorization.
 #![tactic(auto)]
 
-ghost use Rattle.std.specs.Prelude.{◌≡◌, not, ◌+◌, ◌-◌, ◌≤◌, ◌<◌, length};
+ghost use Rattle.std.specs.Prelude.{◌≡◌, ◌+◌, ◌-◌, ◌≤◌, ◌<◌, length};
 ghost use Rattle.definitions.specs.Words.{lexlt};
 ghost use Rattle.lists.specs.Parts.{part};
 ghost use Rattle.layout.specs.Layout.{WORK};
@@ -14,7 +14,6 @@ ghost use Rattle.halves.specs.Halves.{front, Written};
 use compare::rest_before;
 use decoding::{Rule, rule_of};
 use layout::LENGTHS;
-use slices::wide;
 
 // Whether the halves of a rule that is written are in order: `start` is where it stands, `behind` where its right half does.
 pub fn in_order(
@@ -28,24 +27,21 @@ pub fn in_order(
     requires { Written table.now work.now left right start behind }
     ensures { (k : Written table.now work.now left right start behind) → result ≡ ordered k.order table.now k.rule }
 {
-    let n = wide(work[LENGTHS + right]);
+    let n = work[LENGTHS + right] as usize;
     if !is_smaller(work, start, behind, n) {
         return false;
     }
-    let rule = rule_of(table, left);
-    match rule {
+    match rule_of(table, left) {
         Rule::Symbol(_, _) => true,
         Rule::Pair(first, second) => {
-            if second == right {
-                return true;
-            }
-            let middle = start + wide(work[LENGTHS + first]);
-            is_not_smaller(work, middle, behind, n)
+            let middle = start + work[LENGTHS + first] as usize;
+            second == right || !is_smaller(work, middle, behind, n)
         }
     }
 }
 
 // Whether the ranks from i up to j are smaller than the n from j on. The first most often decide, and then nothing is called.
+#[inline(always)]
 fn is_smaller(work: &[u32], i: usize, j: usize, n: usize) -> bool
     requires { (i < j) × (0 < n) × (j + n ≤ 2048) × (WORK ≤ length work.now) }
     ensures { result ≡ lexlt (part i (j - i) (front work.now)) (part j n (front work.now)) }
@@ -56,17 +52,4 @@ fn is_smaller(work: &[u32], i: usize, j: usize, n: usize) -> bool
         return a < b;
     }
     rest_before(&work[0..LENGTHS], i, j, n)
-}
-
-// Whether they are not.
-fn is_not_smaller(work: &[u32], i: usize, j: usize, n: usize) -> bool
-    requires { (i < j) × (0 < n) × (j + n ≤ 2048) × (WORK ≤ length work.now) }
-    ensures { result ≡ not (lexlt (part i (j - i) (front work.now)) (part j n (front work.now))) }
-{
-    let a = work[i];
-    let b = work[j];
-    if a != b {
-        return b < a;
-    }
-    !rest_before(&work[0..LENGTHS], i, j, n)
 }

@@ -9,22 +9,18 @@ ghost use Rattle.lengths.specs.Lengths.{InShape, Sized};
 
 use decoding::{Rule, rule_of};
 use layout::LENGTHS;
-use slices::put;
 
 // Stores the length of each rule's string; or one is above 2,048, and the table is no drive's.
 pub fn measure(table: &[u32], work: &mut [u32]) -> bool
     requires { InShape table.now work.old }
     ensures { (result ≡ true → Sized table.now (rule_count table.now) work.new) × (result ≡ false → (o : Order) → is_table o table.now ≡ false) }
 {
-    let rules = table.len() / 2;
-    let mut r = 0;
-    while r < rules {
+    for r in 0..table.len() / 2 {
         let n = length_of(table, work, r);
         if 2048 < n {
             return false;
         }
-        put(work, LENGTHS + r, n);
-        r += 1;
+        work[LENGTHS + r] = n;
     }
     true
 }
@@ -34,8 +30,7 @@ fn length_of(table: &[u32], work: &[u32], r: usize) -> u32
     requires { Sized table.now r work.now × (r < rule_count table.now) }
     ensures { (o : Order) → result ≡ length (rule_string o table.now r) }
 {
-    let rule = rule_of(table, r);
-    match rule {
+    match rule_of(table, r) {
         Rule::Symbol(_, _) => 1,
         Rule::Pair(left, right) => work[LENGTHS + left] + work[LENGTHS + right],
     }

@@ -9,6 +9,7 @@ ghost use Rattle.lines.specs.Lines.{refusal};
 
 use decimals::{put_decimal, put_decimal_line};
 use definitions::Answer;
+use refusals::number_of;
 use slices::wide;
 
 // Numbers, each on a line.
@@ -17,11 +18,9 @@ pub fn put_decimal_lines(numbers: &[u32], out: &mut [u8]) -> usize
     ensures value { result ≡ length (lines_of decimal numbers.now) }
     ensures out_after { out.new ≡ placed (lines_of decimal numbers.now) out.old }
 {
-    let mut i = 0;
     let mut n = 0;
-    while i < numbers.len() {
-        n += put_decimal_line(wide(numbers[i]), &mut out[n..]);
-        i += 1;
+    for number in numbers {
+        n += put_decimal_line(wide(*number), &mut out[n..]);
     }
     n
 }
@@ -32,10 +31,10 @@ pub fn put_refusal(answer: Answer, out: &mut [u8]) -> usize
     ensures value { result ≡ length (refusal answer) }
     ensures out_after { out.new ≡ placed (refusal answer) out.old }
 {
-    let Answer::Refused(number, _) = answer else {
+    let Err(r) = answer else {
         return 0;
     };
-    put_named(b"refused ", wide(number), out)
+    put_named(b"refused ", wide(number_of(r)), out)
 }
 
 // A line that begins with a name and then has a number.
@@ -55,11 +54,9 @@ pub fn put_spaced(bytes: &[u8], out: &mut [u8]) -> usize
     ensures value { result ≡ length (spaced bytes.now) }
     ensures out_after { out.new ≡ placed (spaced bytes.now) out.old }
 {
-    let mut i = 0;
     let mut n = 0;
-    while i < bytes.len() {
-        n += put_decimal(bytes[i] as usize, 32, &mut out[n..]);
-        i += 1;
+    for byte in bytes {
+        n += put_decimal(*byte as usize, 32, &mut out[n..]);
     }
     n
 }
@@ -76,15 +73,12 @@ pub fn put_line(bytes: &[u8], out: &mut [u8]) -> usize
 }
 
 // Bytes as they are.
+#[tactic(auto, unfolding(definitions::specs::Words::placed))]
 fn put_bytes(bytes: &[u8], out: &mut [u8]) -> usize
     requires { length bytes.now ≤ length out.old }
     ensures value { result ≡ length bytes.now }
     ensures out_after { out.new ≡ placed bytes.now out.old }
 {
-    let mut i = 0;
-    while i < bytes.len() {
-        out[i] = bytes[i];
-        i += 1;
-    }
-    i
+    out[..bytes.len()].copy_from_slice(bytes);
+    bytes.len()
 }

@@ -1,5 +1,6 @@
 -- Positions in the drive, of occurrences in strings that stand in the marked text: those of two strings in a row (`drive_append`,
 -- `drive_behind`), at a join (`drive_cut`), at one place (`drive_before`, `drive_there`), and in the whole (`drive_marked`).
+use Rattle.std.specs.Prelude.{Option, Some, None, MatchOption, unwrap_or}
 use mathlib.Core.Path.{◌≡◌, refl, sym, ◌∙◌, ap, ap₂}
 use mathlib.Core.Bool.{Bool, true, false, cond}
 use mathlib.Core.List.{List, [], ◌∷◌, ◌++◌, map, append_assoc}
@@ -15,7 +16,7 @@ use Rattle.definitions.specs.Occurrences.{occurrences}
 use Rattle.lists.specs.Numbers.{split_le}
 use Rattle.lyndon.specs.Occurrences.{occurrences_first}
 use Rattle.joins.specs.Joining.{cut_place}
-use Rattle.listing.specs.Listing.{in_drive}
+use Rattle.listing.specs.Listing.{in_drive, cut_places}
 
 -- one place: passed over before `first`, else counted from there
 abbrev one : ℕ → ℕ → List ℕ
@@ -42,16 +43,30 @@ drive_cut first at n (suc c) h =
     let e : at + (n - suc c) ≡ 0 + (at + n - suc c) = omega arith in
     ap (λ (k : ℕ). one first k ++ []) e
 
-pub drive_cut_one : (first n c : ℕ) → (c ≡ 0 → ⊥) → in_drive first (n - c) (0 ∷ []) ≡ in_drive first 0 (cut_place n c)
-unfolding in_drive cut_place
-drive_cut_one first n zero h = absurd (h refl)
-drive_cut_one first n (suc c) h =
-    let e : n - suc c + 0 ≡ 0 + (n - suc c) = omega arith in
-    ap (λ (k : ℕ). one first k ++ []) e
+-- the same, where the cut is an option: it is that cut, or there is none and it is 0
+abbrev pub IsCut : Option ℕ → ℕ → Type 0
+IsCut o k = MatchOption o (k ≡ 0) (λ (c : ℕ). (c ≡ k) × (0 < c))
 
-pub drive_cut_none : (first n c : ℕ) → c ≡ 0 → in_drive first 0 (cut_place n c) ≡ []
-unfolding in_drive cut_place
-drive_cut_none first n c e = rw e
+pub cut_same : (n k : ℕ) (o : Option ℕ) → IsCut o k → cut_places n o ≡ cut_place n k
+unfolding cut_places cut_place
+cut_same n zero None e = refl
+cut_same n (suc k) None e = absurd (omega arith)
+cut_same n zero (Some c) (e, h) = absurd (omega arith)
+cut_same n (suc k) (Some c) (e, h) = ap (λ (i : ℕ). (n - i) ∷ []) e
+
+pub cut_number : (k : ℕ) (o : Option ℕ) → IsCut o k → unwrap_or o 0 ≡ k
+cut_number k None e = sym e
+cut_number k (Some c) (e, h) = e
+
+pub drive_cut_none : (first n : ℕ) (o : Option ℕ) → o ≡ None → in_drive first 0 (cut_places n o) ≡ []
+unfolding in_drive cut_places
+drive_cut_none first n o e = rw e refl
+
+pub drive_cut_some : (first n c : ℕ) (o : Option ℕ) → o ≡ Some c → in_drive first (n - c) (0 ∷ []) ≡ in_drive first 0 (cut_places n o)
+unfolding in_drive cut_places
+drive_cut_some first n c o e =
+    let at : n - c + 0 ≡ 0 + (n - c) = omega arith in
+    rw e (ap (λ (k : ℕ). one first k ++ []) at)
 
 -- at one place
 pub drive_before : (first at : ℕ) → at < first → in_drive first at (0 ∷ []) ≡ []

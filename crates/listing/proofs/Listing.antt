@@ -1,6 +1,7 @@
 -- Listing, rule by rule, once all are counted: nothing to list, one symbol, or the positions of a pair's left half, of the cut at its join, and of its
 -- right half (`pair_listed`). Down the right halves what is listed so far and what the rest lists are all of the rule (`Remains`): at first (`all_remains`), from
 -- a pair to its right half (`right_remains`), and once nothing is left (`none_remains`); and the whole (`root_done`).
+use Rattle.std.specs.Prelude.{Option, unwrap_or}
 use mathlib.Core.Path.{◌≡◌, refl, sym, ◌∙◌, ap, ap₂, subst}
 use mathlib.Core.Bool.{Bool, true, false, cond, ◌&&◌}
 use mathlib.Core.List.{List, [], ◌∷◌, ◌++◌, map}
@@ -19,11 +20,11 @@ use Rattle.decoding.specs.Decoding.{rule_in}
 use Rattle.state.specs.State.{Loaded}
 use Rattle.joins.specs.Joining.{cut_place}
 use Rattle.rule_finds.specs.Found.{occurs_in}
-use Rattle.listing.specs.Listing.{Finds, in_drive, table_for, found_for, placed_from, Listable, Listed}
+use Rattle.listing.specs.Listing.{Finds, in_drive, cut_places, table_for, found_for, placed_from, Listable, Listed}
 use Rattle.rule_finds.proofs.Standing.{PlacedHalves, placed_symbol, pair_stands, rule_stands}
 use Rattle.rule_finds.proofs.Counting.{pair_occurs}
 use Rattle.search.proofs.Ending.{root_occurs}
-use Rattle.listing.proofs.Drives.{drive_append, drive_behind, drive_cut, drive_marked}
+use Rattle.listing.proofs.Drives.{IsCut, cut_same, cut_number, drive_append, drive_behind, drive_cut, drive_marked}
 use Rattle.listing.proofs.Entries.{from_start, from_none, from_both}
 
 -- a pattern fits into one symbol at its start alone
@@ -194,26 +195,29 @@ module _ {w : List ℕ} {first r at n₀ : ℕ} {old : List ℕ} {rest place n :
         front = λ h low. a.front h (omega (arith, q.falls)) ∙ q.front h low;
       }
 
-  module _ (u v : ℕ) (k : rule_in w rest ≡ Pair u v) (join c : ℕ) (e : join ≡ place + length_in w u) (d : c ≡ join_cut_in w rest) where
+  module _ (u v : ℕ) (k : rule_in w rest ≡ Pair u v) (join : ℕ) (e : join ≡ place + length_in w u) (o : Option ℕ) (d : IsCut o (join_cut_in w rest)) where
+    cut : cut_places join o ≡ cut_place join (join_cut_in w rest)
+    cut = cut_same join (join_cut_in w rest) o d
+
     pair : PairLists w rest u v
     pair = list_pair q.listable u v k
 
     -- what is listed of the rest, in its parts
     parts : (h : Finds w) → rest < rule_count (table_for w h)
-        → length (in_drive first place (found_for w h rest)) ≡ length (in_drive first place (found_for w h u)) + (length (in_drive first 0 (cut_place join c)) + length (in_drive first join (found_for w h v)))
-    parts h low = pair_number w h rest low u v k first place join c e d
+        → length (in_drive first place (found_for w h rest)) ≡ length (in_drive first place (found_for w h u)) + (length (in_drive first 0 (cut_places join o)) + length (in_drive first join (found_for w h v)))
+    parts h low = rw cut (pair_number w h rest low u v k first place join (join_cut_in w rest) e refl)
 
     pub cut_fits : (m : ℕ) (mid : List ℕ) → length mid ≡ length now → Listed w first u place n m now mid
-        → (c ≤ join) × (join ≤ 2048) × (m + length (in_drive first 0 (cut_place join c)) ≤ length mid)
+        → (unwrap_or o 0 ≤ join) × (join ≤ 2048) × (m + length (in_drive first 0 (cut_places join o)) ≤ length mid)
     cut_fits m mid s a =
         let l = q.listable in (
-          omega (arith, pair.cut),
+          omega (arith, pair.cut, cut_number (join_cut_in w rest) o d),
           omega (arith, pair.size, l.inside),
           omega (arith, a.number l.finds (omega (arith, pair.left, l.low)), parts l.finds l.low, l.room),
         )
 
     pub right_remains : (m i : ℕ) (mid new : List ℕ) → length mid ≡ length now → length new ≡ length mid → Listed w first u place n m now mid
-        → i ≡ m + length (in_drive first 0 (cut_place join c)) → new ≡ placed_from m (in_drive first 0 (cut_place join c)) mid → Remains w first r at n₀ old v join i new
+        → i ≡ m + length (in_drive first 0 (cut_places join o)) → new ≡ placed_from m (in_drive first 0 (cut_places join o)) mid → Remains w first r at n₀ old v join i new
     right_remains m i mid new s l a g f =
         let b = q.listable in
         record {
@@ -233,7 +237,7 @@ module _ {w : List ℕ} {first r at n₀ : ℕ} {old : List ℕ} {rest place n :
         behind : (h : Finds w) → r < rule_count (table_for w h) → placed_from i (in_drive first join (found_for w h v)) new ≡ placed_from n₀ (in_drive first at (found_for w h r)) old
         behind h low =
             let x = in_drive first place (found_for w h u) in
-            let y = in_drive first 0 (cut_place join c) in
+            let y = in_drive first 0 (cut_places join o) in
             let z = in_drive first join (found_for w h v) in
             let b = q.listable in
             let rest-low : rest < rule_count (table_for w h) = omega (arith, q.falls) in
@@ -242,7 +246,7 @@ module _ {w : List ℕ} {first r at n₀ : ℕ} {old : List ℕ} {rest place n :
             ∙ from_both m y mid (cut_fits m mid s a).2 z i g
             ∙ ap (placed_from m (y ++ z)) (a.front h left_low)
             ∙ from_both n x now (omega (arith, (cut_fits m mid s a).2, a.number h left_low)) (y ++ z) m (a.number h left_low)
-            ∙ ap (λ (p : List ℕ). placed_from n p now) (sym (pair_listed w h rest rest-low u v k first place join c e d))
+            ∙ ap (λ (p : List ℕ). placed_from n p now) (ap (λ (c : List ℕ). x ++ (in_drive first 0 c ++ z)) cut ∙ sym (pair_listed w h rest rest-low u v k first place join (join_cut_in w rest) e refl))
             ∙ q.front h low
 
 -- ---- the whole

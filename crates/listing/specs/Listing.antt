@@ -1,6 +1,6 @@
 -- What listing starts from, once all rules are counted, and what it leaves: in the slice, behind what is written, the positions in the drive of the
 -- occurrences in a rule. w is the work slice, `old` and `new` the slice lent before and after.
-use Rattle.std.specs.Prelude.{◌≡◌, cond, List, [], ◌∷◌, ◌++◌, map, ℕ, ◌+◌, ◌-◌, ◌≤◌, ◌<◌, length, take, drop, ltb}
+use Rattle.std.specs.Prelude.{◌≡◌, cond, Option, Some, None, List, [], ◌∷◌, ◌++◌, map, ℕ, ◌+◌, ◌-◌, ◌≤◌, ◌<◌, length, take, drop, ltb}
 use Rattle.definitions.specs.declared.Order.{Order}
 use Rattle.definitions.specs.Words.{placed}
 use Rattle.definitions.specs.Table.{rank_of, table_of, rule_count}
@@ -20,6 +20,11 @@ pub record Finds (w : List ℕ) : Type 0 where
 unfoldable pub in_drive : ℕ → ℕ → List ℕ → List ℕ
 in_drive first at [] = []
 in_drive first at (k ∷ l) = cond (ltb (at + k) first) [] ((at + k - first) ∷ []) ++ in_drive first at l
+
+-- the place of an occurrence that is cut there at a join behind n symbols; none without a cut
+unfoldable pub cut_places : ℕ → Option ℕ → List ℕ
+cut_places n None = []
+cut_places n (Some c) = (n - c) ∷ []
 
 -- the table, its number of rules, and the occurrences in rule r, of a search that is done
 abbrev pub table_for : (w : List ℕ) → Finds w → List ℕ

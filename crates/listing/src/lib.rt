@@ -3,11 +3,10 @@
 // occurrences.
 #![tactic(auto)]
 
-ghost use Rattle.std.specs.Prelude.{◌≡◌, [], ◌∷◌, ◌+◌, ◌≤◌, length, drop};
+ghost use Rattle.std.specs.Prelude.{◌≡◌, [], ◌∷◌, ◌+◌, ◌≤◌, length, drop, unwrap_or};
 ghost use Rattle.definitions.specs.Words.{placed};
 ghost use Rattle.definitions.specs.Occurrences.{occurrences};
-ghost use Rattle.joins.specs.Joining.{cut_place};
-ghost use Rattle.listing.specs.Listing.{Finds, in_drive, placed_from, Listable, Listed, rules_counted};
+ghost use Rattle.listing.specs.Listing.{Finds, in_drive, cut_places, placed_from, Listable, Listed, rules_counted};
 
 use areas::{cut_of, length_of, number_of};
 use decoding::{Rule, rule_in};
@@ -39,14 +38,12 @@ fn list_rule(
     let mut rest = r;
     let mut place = at;
     while 0 < number_of(work, rest) {
-        let rule = rule_in(work, rest);
-        let Rule::Pair(u, v) = rule else {
+        let Rule::Pair(u, v) = rule_in(work, rest) else {
             return list_one(res, n, first, place);
         };
         let join = place + length_of(work, u);
-        let c = cut_of(work, rest);
-        let m = list_half(work, u, place, first, res, n);
-        n = list_cut(res, m, first, join, c);
+        n = list_half(work, u, place, first, res, n);
+        n = list_cut(res, n, first, join, cut_of(work, rest));
         place = join;
         rest = v;
     }
@@ -62,22 +59,21 @@ fn list_half(work: &[u32], r: usize, at: usize, first: usize, res: &mut [u32], n
     if number_of(work, r) == 0 {
         return n;
     }
-    let rule = rule_in(work, r);
-    let Rule::Pair(_, _) = rule else {
+    let Rule::Pair(_, _) = rule_in(work, r) else {
         return list_one(res, n, first, at);
     };
     list_rule(work, r, at, first, res, n)
 }
 
-// The same for the occurrence that begins c symbols before a join, none if c is 0.
-fn list_cut(res: &mut [u32], n: usize, first: usize, join: usize, c: usize) -> usize
-    requires { (c ≤ join) × (join ≤ 2048) × (n + length (in_drive first 0 (cut_place join c)) ≤ length res.old) }
-    ensures { (result ≡ n + length (in_drive first 0 (cut_place join c))) × (res.new ≡ placed_from n (in_drive first 0 (cut_place join c)) res.old) }
+// The same for the occurrence that a join cuts, if there is one: it begins so many symbols before the join.
+fn list_cut(res: &mut [u32], n: usize, first: usize, join: usize, cut: Option<usize>) -> usize
+    requires { (unwrap_or cut 0 ≤ join) × (join ≤ 2048) × (n + length (in_drive first 0 (cut_places join cut)) ≤ length res.old) }
+    ensures { (result ≡ n + length (in_drive first 0 (cut_places join cut))) × (res.new ≡ placed_from n (in_drive first 0 (cut_places join cut)) res.old) }
 {
-    if c == 0 {
-        return n;
+    match cut {
+        Some(c) => list_one(res, n, first, join - c),
+        None => n,
     }
-    list_one(res, n, first, join - c)
 }
 
 // The same for one occurrence, at a place of the marked text; none if that is before the first that counts.

@@ -1,10 +1,9 @@
 -- Which of several checks decides: one of them is the first that is met (`First`), or none is (`Passed`), and `first_met` then gives what that
 -- check refuses with (`first_decides`), or success (`passed_all`). What the answer of a check (`checked`) or of several (`answered`) tells of them.
-use Rattle.std.specs.Prelude.{◌≡◌, refl, Bool, true, false, cond, ◌⊎◌, List, [], ◌∷◌, ◌++◌, ℕ}
-use Rattle.std.proofs.Common.{sym, ◌∙◌, inl, inr, arith}
-use Rattle.definitions.specs.declared.Answer.{Answer}
-use Rattle.definitions.specs.declared.Answer.TheVariants.{Done, Refused}
-use Rattle.definitions.specs.Services.{Check, first_met}
+use Rattle.std.specs.Prelude.{◌≡◌, refl, Ok, Err, Bool, true, false, cond, ◌⊎◌, List, [], ◌∷◌, ◌++◌, ℕ}
+use Rattle.std.proofs.Common.{sym, ◌∙◌, ap, inl, inr, arith}
+use Rattle.definitions.specs.declared.Refusal.{Refusal}
+use Rattle.definitions.specs.Services.{Answer, Outcome, done, refused, outcome_of, Check, first_met}
 
 -- d is the first of the checks that is met
 pub data First (d : Check) : List Check → Type 0 where
@@ -59,57 +58,59 @@ passed_parts (c ∷ a) (more _ e p) = let (q, r) = passed_parts a p in (more c e
 
 -- ---- answers
 
--- the answer of one check: the refusal where it is met, else what goes on; and that of several in order
-abbrev pub checked : Check → ℕ → Answer
-checked c n = cond c.met (Refused c.number c.place) (Done n)
+-- what one check decides: the refusal where it is met, else the number that goes on; and several in order
+abbrev pub checked : Check → ℕ → Outcome
+checked c n = cond c.met (refused c.number c.place) (done n 0)
 
-abbrev pub answered : List Check → ℕ → Answer
-answered checks n = first_met checks (λ c. Refused c.number c.place) (Done n)
+abbrev pub answered : List Check → ℕ → Outcome
+answered checks n = first_met checks (λ c. refused c.number c.place) (done n 0)
 
-module _ (checks : List Check) (n : ℕ) {r : Answer} (e : r ≡ answered checks n) where
+module _ (checks : List Check) (n : ℕ) {r : Answer} (e : outcome_of r ≡ answered checks n) where
   -- an answer that refuses is that of one of them
-  pub refused_some : {a b : ℕ} → r ≡ Refused a b → (d : Check) × First d checks × (r ≡ Refused d.number d.place)
-  refused_some {a} {b} h = go (decide checks)
+  pub refused_some : {f : Refusal} → r ≡ Err f → (d : Check) × First d checks × (outcome_of r ≡ refused d.number d.place)
+  unfolding outcome_of
+  refused_some {f} h = go (decide checks)
     where
-      go : ((d : Check) × First d checks) ⊎ Passed checks → (d : Check) × First d checks × (r ≡ Refused d.number d.place)
-      go (inl (d, f)) = (d, f, e ∙ first_decides d (λ c. Refused c.number c.place) (Done n) f)
+      go : ((d : Check) × First d checks) ⊎ Passed checks → (d : Check) × First d checks × (outcome_of r ≡ refused d.number d.place)
+      go (inl (d, x)) = (d, x, e ∙ first_decides d (λ c. refused c.number c.place) (done n 0) x)
       go (inr p) =
-          let f : Done n ≡ Refused a b = sym (e ∙ passed_all (λ c. Refused c.number c.place) (Done n) p) ∙ h in
+          let g : outcome_of (Err f) ≡ done n 0 = sym (ap outcome_of h) ∙ e ∙ passed_all (λ c. refused c.number c.place) (done n 0) p in
           let z : ◌≡◌ {A = ℕ} 0 1 = cc in
           absurd (omega arith)
 
   -- whatever checks follow
-  pub refused_already : {a b : ℕ} → r ≡ Refused a b → (rest : List Check) → r ≡ answered (checks ++ rest) n
+  pub refused_already : {f : Refusal} → r ≡ Err f → (rest : List Check) → outcome_of r ≡ answered (checks ++ rest) n
   refused_already h rest =
-      let (d, f, g) = refused_some h in
-      g ∙ sym (first_decides d (λ c. Refused c.number c.place) (Done n) (first_before rest f))
+      let (d, x, g) = refused_some h in
+      g ∙ sym (first_decides d (λ c. refused c.number c.place) (done n 0) (first_before rest x))
 
   -- one that goes on has met none, and hands on what was to be handed on
-  pub done_all : {a : ℕ} → r ≡ Done a → Passed checks × (a ≡ n)
+  pub done_all : {a : ℕ} → r ≡ Ok a → Passed checks × (a ≡ n)
+  unfolding outcome_of
   done_all {a} h = go (decide checks)
     where
       go : ((d : Check) × First d checks) ⊎ Passed checks → Passed checks × (a ≡ n)
-      go (inl (d, f)) =
-          let g : Refused d.number d.place ≡ Done a = sym (e ∙ first_decides d (λ c. Refused c.number c.place) (Done n) f) ∙ h in
+      go (inl (d, x)) =
+          let g : refused d.number d.place ≡ outcome_of (Ok a) = sym (e ∙ first_decides d (λ c. refused c.number c.place) (done n 0) x) ∙ ap outcome_of h in
           let z : ◌≡◌ {A = ℕ} 0 1 = cc in
           absurd (omega arith)
       go (inr p) =
-          let f : Done a ≡ Done n = sym h ∙ e ∙ passed_all (λ c. Refused c.number c.place) (Done n) p in
+          let g : outcome_of (Ok a) ≡ done n 0 = sym (ap outcome_of h) ∙ e ∙ passed_all (λ c. refused c.number c.place) (done n 0) p in
           (p, cc)
 
 -- the same of one check
-module _ (c : Check) (n : ℕ) {r : Answer} (e : r ≡ checked c n) where
-  pub refused_met : {a b : ℕ} → r ≡ Refused a b → (c.met ≡ true) × (r ≡ Refused c.number c.place)
+module _ (c : Check) (n : ℕ) {r : Answer} (e : outcome_of r ≡ checked c n) where
+  pub refused_met : {f : Refusal} → r ≡ Err f → (c.met ≡ true) × (outcome_of r ≡ refused c.number c.place)
   unfolding first_met
-  refused_met f = go (refused_some (c ∷ []) n e f)
+  refused_met h = go (refused_some (c ∷ []) n e h)
     where
-      go : (d : Check) × First d (c ∷ []) × (r ≡ Refused d.number d.place) → (c.met ≡ true) × (r ≡ Refused c.number c.place)
+      go : (d : Check) × First d (c ∷ []) × (outcome_of r ≡ refused d.number d.place) → (c.met ≡ true) × (outcome_of r ≡ refused c.number c.place)
       go (d, met q, g) = (q, g)
       go (d, later _ _ x8, g) = elim x8 [ ]
 
-  pub done_met : {a : ℕ} → r ≡ Done a → (c.met ≡ false) × (a ≡ n)
+  pub done_met : {a : ℕ} → r ≡ Ok a → (c.met ≡ false) × (a ≡ n)
   unfolding first_met
-  done_met {a} f = go (done_all (c ∷ []) n e f)
+  done_met {a} h = go (done_all (c ∷ []) n e h)
     where
       go : Passed (c ∷ []) × (a ≡ n) → (c.met ≡ false) × (a ≡ n)
       go (more _ q none, g) = (q, g)

@@ -7,6 +7,7 @@ pub mod Strings
 pub mod FirstDifference
 pub mod Sameness
 pub mod Parts
+pub mod Refusals
 pub mod Newest
 pub mod Decisions
 pub mod Serving

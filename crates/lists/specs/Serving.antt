@@ -1,13 +1,12 @@
 -- Calls that serve, by the check that decides: refused by one of the checks (`refused_by`, `refused_front`), or decided by those behind them (`passed`; back: `passed_over`),
 -- in the end by none (`served`; back: `done_passed`, `done_served`). A work slice that is cleared can be lent besides (`worked`), and an answer stated otherwise (`restated`, `said`),
 -- or without the number beside the one that success gives (`alone`).
-use Rattle.std.specs.Prelude.{◌≡◌, refl, Bool, true, false, cond, ◌⊎◌, List, [], ◌∷◌, ◌++◌, map, ℕ}
+use Rattle.std.specs.Prelude.{◌≡◌, refl, Err, Bool, true, false, cond, ◌⊎◌, List, [], ◌∷◌, ◌++◌, map, ℕ}
 use Rattle.std.proofs.Math.Path.{sym, subst}
-use Rattle.std.proofs.Common.{◌∙◌, ap, ap₂, inl, inr, append_assoc, arith}
-use Rattle.definitions.specs.declared.Answer.{Answer}
-use Rattle.definitions.specs.declared.Answer.TheVariants.{Refused}
+use Rattle.std.proofs.Common.{◌∙◌, ap₂, inl, inr, append_assoc, arith}
+use Rattle.definitions.specs.declared.Refusal.{Refusal}
 use Rattle.definitions.specs.declared.Search.{Search}
-use Rattle.definitions.specs.Services.{Outcome, done, refused, outcome_of, search_of, Check, Lent, work_slice, Service, first_met, outcome, slices_after, cleared, Serves, Answers}
+use Rattle.definitions.specs.Services.{Answer, Outcome, done, refused, outcome_of, alone, Searches, Check, Lent, work_slice, Service, first_met, outcome, slices_after, cleared, Serves, Answers}
 use Rattle.lists.specs.Decisions.{First, met, later, Passed, decide, first_decides, passed_all, passed_front, first_before, answered, refused_some}
 
 abbrev pub by : List Check → Outcome → List Lent → Service
@@ -15,11 +14,10 @@ by checks success lent = record { checks = checks; success = success; lent = len
 
 -- an answer that refuses stands for a refusal, whatever the kind of answer
 abbrev pub Refuses : (Outcome → Type 0) → Answer → Type 0
-Refuses A r = (x y : ℕ) → r ≡ Refused x y → A (refused x y)
+Refuses A r = (x y : ℕ) → outcome_of r ≡ refused x y → A (refused x y)
 
 pub answer_refuses : (r : Answer) → Refuses (Answers r) r
-unfolding outcome_of
-answer_refuses r x y e = ap outcome_of e
+answer_refuses r x y e = e
 
 same_map : (f g : Lent → List ℕ) → ((x : Lent) → f x ≡ g x) → (l : List Lent) → map f l ≡ map g l
 same_map f g h [] = refl
@@ -108,15 +106,9 @@ restated {checks} {success} {other} {lent} {A} {B} {held} f g v = record { answe
 
 -- ---- the number beside the one that success gives, left out
 
-unfoldable pub alone : Outcome → Outcome
-alone (done n beside) = done n 0
-alone (refused number place) = refused number place
-
 -- what the answer of a search stands for
-pub search_alone : (s : Search) (o : Outcome) → s ≡ search_of o → outcome_of s.answer ≡ alone o
-unfolding outcome_of search_of alone
-search_alone s (done n tests) e = ap (λ (x : Search). outcome_of x.answer) e
-search_alone s (refused number place) e = ap (λ (x : Search). outcome_of x.answer) e
+pub search_alone : (s : Search) (o : Outcome) → Searches s o → outcome_of s.answer ≡ alone o
+search_alone s o e = e.answer
 
 abbrev refusal : Check → Outcome
 refusal c = refused c.number c.place
@@ -164,8 +156,8 @@ worked {checks} work after k e v =
     record { answer = v.answer; slices = ap₂ {C = List (List ℕ)} (λ x l. x ∷ l) (e ∙ sym (all_cleared checks work k)) v.slices }
 
 -- refused by one of the first checks, none of which clears: every lent slice is as it was
-pub refused_front : (front rest : List Check) {success : Outcome} {lent : List Lent} {A : Outcome → Type 0} {held : List (List ℕ)} (n : ℕ) {a b : ℕ} {r : Answer}
-    → Clear false front → r ≡ answered front n → r ≡ Refused a b → Refuses A r → ((d : Check) → d.clears ≡ false → held ≡ map (λ x. x.if_refused d) lent)
+pub refused_front : (front rest : List Check) {success : Outcome} {lent : List Lent} {A : Outcome → Type 0} {held : List (List ℕ)} (n : ℕ) {f : Refusal} {r : Answer}
+    → Clear false front → outcome_of r ≡ answered front n → r ≡ Err f → Refuses A r → ((d : Check) → d.clears ≡ false → held ≡ map (λ x. x.if_refused d) lent)
     → Serves (by (front ++ rest) success lent) A held
 refused_front front rest n k e f refuses same =
     let (d, first, g) = refused_some front n e f in

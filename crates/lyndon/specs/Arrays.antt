@@ -8,10 +8,9 @@ use Rattle.std.proofs.Math.ListN.{length-map}
 use Rattle.std.proofs.Math.Seq.{take-append_seam}
 use Rattle.definitions.specs.Words.{below, placed, lexlt, lyndon, lyndon_length, lyndon_array}
 use Rattle.definitions.specs.declared.Order.{Order}
-use Rattle.definitions.specs.declared.Answer.{Answer}
 use Rattle.definitions.specs.Grammar.{leaf, word}
 use Rattle.definitions.specs.Table.{rank_of, table_of, text_of}
-use Rattle.definitions.specs.Services.{done, refused, outcome_of, first_met, cleared, outcome, slices_after, Serves, Answers, table_checks, lyndon_length_service, lyndon_array_service}
+use Rattle.definitions.specs.Services.{Answer, done, refused, outcome_of, first_met, cleared, outcome, slices_after, Serves, Answers, table_checks, lyndon_length_service, lyndon_array_service}
 use Rattle.lists.specs.Bools.{not_so}
 use Rattle.lists.specs.Numbers.{below_shift, greatest_is}
 use Rattle.lyndon.specs.Lexical.{lexlt_lt, lt_irrefl}

@@ -4,10 +4,9 @@ use Rattle.std.specs.Prelude.{◌≡◌, refl, List, [], ◌∷◌, ◌++◌, �
 use Rattle.std.proofs.Common.{sym, ◌∙◌, ap, ap₂, subst, append-nil}
 use borrow.Author.Tests.{le-ltb, ltb-false}
 use Rattle.definitions.specs.declared.Order.{Order}
-use Rattle.definitions.specs.declared.Answer.{Answer}
 use Rattle.definitions.specs.Words.{placed}
 use Rattle.definitions.specs.Table.{table_of, rule_count}
-use Rattle.definitions.specs.Services.{done, outcome_of, Check, first_met, cleared, outcome, slices_after, Serves, Answers, text_too_long, table_checks, build_service, check_service, read_service}
+use Rattle.definitions.specs.Services.{Answer, done, outcome_of, Check, first_met, cleared, outcome, slices_after, Serves, Answers, text_too_long, table_checks, build_service, check_service, read_service}
 use Rattle.lists.specs.Lists.{placed_front}
 use Rattle.lists.specs.Decisions.{Passed, more}
 use Rattle.lists.specs.Serving.{done_passed, done_served}

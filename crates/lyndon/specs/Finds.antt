@@ -15,14 +15,13 @@ use borrow.Author.Tests.{le-ltb, ne_eqb, not-false}
 use Rattle.definitions.specs.declared.Order.{Order}
 use Rattle.definitions.specs.declared.Content.{Content}
 use Rattle.definitions.specs.declared.Content.TheVariants.{Samples, Steps}
-use Rattle.definitions.specs.declared.Answer.{Answer}
-use Rattle.definitions.specs.declared.Answer.TheVariants.{Done}
+use Rattle.std.specs.declared.result.Result.TheVariants.{Ok}
 use Rattle.definitions.specs.declared.Search.{Search}
 use Rattle.definitions.specs.Words.{placed}
 use Rattle.definitions.specs.Table.{rank_of, table_of, text_of, is_table}
 use Rattle.definitions.specs.Occurrences.{listed_cuts, pattern_cuts, tests}
 use Rattle.definitions.specs.Steps.{to_steps, from_steps, step_finds, searched, finds}
-use Rattle.definitions.specs.Services.{done, refused, outcome_of, first_met, cleared, work_slice, result_too_short, outcome, slices_after, search_of, Serves, Answers, Searches, table_checks, pattern_checks, search_checks, count_service, locate_service, cuts_service}
+use Rattle.definitions.specs.Services.{Answer, done, refused, outcome_of, alone, tests_made, first_met, cleared, work_slice, result_too_short, outcome, slices_after, Serves, Answers, Searches, table_checks, pattern_checks, search_checks, count_service, locate_service, cuts_service}
 use Rattle.lists.specs.Numbers.{Rising}
 use Rattle.lists.specs.Members.{in_none}
 use Rattle.lists.specs.Decisions.{Passed, none, more, both_passed, passed_all}
@@ -136,18 +135,17 @@ module _ (o : Order) (t : List ℕ) (c : Content) (p work : List ℕ) (accepted 
         (passed_all (λ x. result) (placed all result) passes_all)
 
     -- of every call that serves and answers k
-    pub returned : Bytes p → (r : Search) {work' result' : List ℕ} (k : ℕ) → Serves (locate_service o t c p work result) (Searches r) (work' ∷ result' ∷ []) → r.answer ≡ Done k
+    pub returned : Bytes p → (r : Search) {work' result' : List ℕ} (k : ℕ) → Serves (locate_service o t c p work result) (Searches r) (work' ∷ result' ∷ []) → r.answer ≡ Ok k
         → AllFinds (FoundAt c p (text_of o t)) (take k result') × (length (take k result') ≡ k) × (r.tests ≡ made) × (outcome (count_service o t c p work) ≡ done k made)
-    unfolding search_of
+    unfolding outcome_of alone tests_made
     returned hp r {work'} {result'} k v e =
-        let s : r ≡ search_of (done (length all) made) = v.answer ∙ ap search_of located in
-        let d : Done (length all) ≡ Done k = sym (ap (λ (x : Search). x.answer) s) ∙ e in
+        let d : done k 0 ≡ done (length all) 0 = sym (ap outcome_of e) ∙ v.answer.answer ∙ ap alone located in
         let q : length all ≡ k = cc in
         let held : result' ≡ all ++ drop (length all) result = ap (λ (l : List (List ℕ)). get_or l 1 []) (v.slices ∙ written) in
         let g : take k result' ≡ all = ap₂ {C = List ℕ} take (sym q) held ∙ take-append_seam all (drop (length all) result) in (
           subst (AllFinds (FoundAt c p (text_of o t))) (sym g) (found_all c p (text_of o t) filled hp (accepted_stored o t (not-false (is_table o t) accepted.2)).bytes),
           ap length g ∙ q,
-          ap (λ (x : Search). x.tests) s,
+          v.answer.tests ∙ ap tests_made located,
           counted ∙ ap (λ (m : ℕ). done m made) q,
         )
 

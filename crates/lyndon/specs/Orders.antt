@@ -18,16 +18,15 @@ use Rattle.definitions.specs.declared.Order.{Order}
 use Rattle.definitions.specs.declared.Order.TheVariants.{Unsigned, Signed}
 use Rattle.definitions.specs.declared.Content.{Content}
 use Rattle.definitions.specs.declared.Content.TheVariants.{Samples, Steps}
-use Rattle.definitions.specs.declared.Answer.{Answer}
 use Rattle.definitions.specs.Words.{placed, lexlt}
 use Rattle.definitions.specs.Table.{rank_of, byte_of, number_of_rank, rank_of_number, marked, table_of, rule_string, spelled, text_of, chair_of, is_table, rule_count}
-use Rattle.definitions.specs.Services.{sample_order, former_order, Check, Service, Outcome, done, refused, outcome_of, first_met, cleared, outcome, slices_after, Serves, Answers, work_too_short, table_length, has_bad_word, not_a_table, result_too_short, table_checks, pattern_checks, search_checks, check_service, read_service, extract_service, count_service, locate_service, convert_order_service}
+use Rattle.definitions.specs.Services.{Answer, sample_order, former_order, Check, Service, Outcome, done, refused, outcome_of, alone, first_met, cleared, outcome, slices_after, Serves, Answers, work_too_short, table_length, has_bad_word, not_a_table, result_too_short, table_checks, pattern_checks, search_checks, check_service, read_service, extract_service, count_service, locate_service, convert_order_service}
 use Rattle.lists.specs.Bools.{not_so}
 use Rattle.lists.specs.Numbers.{split_le, split_lt, every_at, every_all}
 use Rattle.lists.specs.Lists.{Overlap, within, across, overlap, placed_front}
 use Rattle.lists.specs.Members.{in_map}
 use Rattle.lists.specs.Decisions.{First, met, later, Passed, none, first_decides, first_before, passed_front}
-use Rattle.lists.specs.Serving.{done_served, alone, alone_alike}
+use Rattle.lists.specs.Serving.{done_served, alone_alike}
 use Rattle.lyndon.specs.Lexical.{Lt}
 use Rattle.lyndon.specs.Factorization.{Std}
 use Rattle.lyndon.specs.Ranks.{Bytes, rank_range, number_of_rank_lem, bytes_back}

@@ -1,9 +1,9 @@
 -- Second-edition tables without a bad word, wherever they come from: each rule is a symbol, or a rule before it and then copies of another
 -- (`ruled_second`), by its words and by what it spells; so no rule spells nothing (`second_filled`), every symbol is a rank (`second_ranks`),
 -- and word 1 holds a chair number (`second_chair`).
-use Rattle.std.specs.Prelude.{◌≡◌, ◌⊎◌, cond, not, ◌&&◌, ◌||◌, length, get_or}
+use Rattle.std.specs.Prelude.{◌≡◌, not, ◌&&◌, ◌||◌, length, get_or}
 use Rattle.std.proofs.Math.Path.{refl, sym}
-use Rattle.std.proofs.Common.{true, leb, Bool, ◌∙◌, ap, ap₂, subst, ⊎_elim, length-append, inl, inr, ltb-true, leb-true}
+use Rattle.std.proofs.Common.{◌∙◌, ap, ap₂, subst, ⊎_elim, length-append}
 use Rattle.std.proofs.Math.Bool.{false}
 use mathlib.Core.List.Memᴰ.{append_cases as in-append}
 use mathlib.Core.List.Memᴰ.{eq_of_singleton as in_one}
@@ -15,11 +15,11 @@ use borrow.Author.Tests.{ltb-false, eqb-true, eqb-false, eq-eqb, ne_eqb, not-fal
 use Rattle.definitions.specs.declared.Order.{Order}
 use Rattle.definitions.specs.Table.{rank_of_number, word_of, kind_of, number_of, bad_first, bad_second}
 use Rattle.definitions.specs.SecondEdition.{bad_third, bad_in_second, copies, string_in_second, second_rules, second_strings, second_string}
-use Rattle.lists.specs.Bools.{or_false_left, or_false_right, and_left, and_right, or_cases}
+use Rattle.lists.specs.Bools.{or_false_left, or_false_right}
 use Rattle.lists.specs.Lists.{grown_length, grown_at}
 use Rattle.lists.specs.Copies.{in_copies}
 use Rattle.lyndon.specs.Encoding.{word_number}
-use Rattle.lyndon.specs.Shapes.{second_symbol, second_pair, number_rank}
+use Rattle.lyndon.specs.Shapes.{ShapeOf, one, two, words_shape, number_rank}
 use Rattle.lyndon.specs.Ruled.{word_parts}
 
 -- no word of the table is bad, and its words come in threes
@@ -118,48 +118,6 @@ module _ (o : Order) (s : List ℕ) where
       (ap₂ {C = List ℕ} (λ x y. x ++ copies (number_of (get_or s (3 * r + 2) 0)) y)
       (second_in r (number_of (get_or s (3 * r) 0)) u (omega arith))
       (second_in r (number_of (get_or s (3 * r + 1) 0)) v (omega arith)))
-
--- ---- two words of a rule
-
--- x and y are the words of a rule r: a symbol's, or those of two rules before it
-pub data ShapeOf (r x y : ℕ) : Type 0 where
-  one : kind_of x ≡ 0 → number_of x < 257 → kind_of y ≡ 3 → number_of y < 65536 → ShapeOf r x y
-  two : kind_of x ≡ 1 → number_of x < r → kind_of y ≡ 2 → number_of y < r → ShapeOf r x y
-
-pub words_shape : (r x y : ℕ) → bad_first r x ≡ false → bad_second r x y ≡ false → ShapeOf r x y
-unfolding bad_first
-words_shape r x y first second = go (or_cases (eqb k 0 && leb n 256) (eqb k 1 && ltb n r) (not-false ((eqb k 0 && leb n 256) || (eqb k 1 && ltb n r)) first))
-  where
-    k : ℕ
-    k = kind_of x
-
-    n : ℕ
-    n = number_of x
-
-    l : ℕ
-    l = kind_of y
-
-    m : ℕ
-    m = number_of y
-
-    most : ℕ
-    most = cond (eqb r 0) 65535 0
-
-    small : (b : Bool) → eqb r 0 ≡ b → m ≤ cond (eqb r 0) 65535 0 → m < 65536
-    small true e q = omega (arith, rw e at q)
-    small false e q = omega (arith, rw e at q)
-
-    go : (eqb k 0 && leb n 256 ≡ true) ⊎ (eqb k 1 && ltb n r ≡ true) → ShapeOf r x y
-    go (inl e) =
-        let z = eqb-true k 0 (and_left (eqb k 0) (leb n 256) e) in
-        let f = second_symbol r x y z second in
-        let b = leb-true n 256 (and_right (eqb k 0) (leb n 256) e) in
-        one z (omega (arith, b)) (eqb-true l 3 (and_left (eqb l 3) (leb m most) f))
-        (small (eqb r 0) refl (leb-true m most (and_right (eqb l 3) (leb m most) f)))
-    go (inr e) =
-        let z = eqb-true k 1 (and_left (eqb k 1) (ltb n r) e) in
-        let f = second_pair r x y z second in
-        two z (ltb-true n r (and_right (eqb k 1) (ltb n r) e)) (eqb-true l 2 (and_left (eqb l 2) (ltb m r) f)) (ltb-true m r (and_right (eqb l 2) (ltb m r) f))
 
 -- ---- the two kinds of rules
 

@@ -23,11 +23,13 @@ use Rattle.lyndon.specs.Stored.{Stored, table_length_lem, table_filled, table_no
 
 -- ---- the two kinds of rules
 
-pub data Shape (t : List ℕ) (r : ℕ) : Type 0 where
-  one : kind_of (get_or t (2 * r) 0) ≡ 0 → number_of (get_or t (2 * r) 0) < 257 → kind_of (get_or t (2 * r + 1) 0) ≡ 3
-      → number_of (get_or t (2 * r + 1) 0) < 65536 → Shape t r
-  two : kind_of (get_or t (2 * r) 0) ≡ 1 → number_of (get_or t (2 * r) 0) < r → kind_of (get_or t (2 * r + 1) 0) ≡ 2
-      → number_of (get_or t (2 * r + 1) 0) < r → Shape t r
+-- x and y are the words of a rule r: a symbol's, or those of two rules before it
+pub data ShapeOf (r x y : ℕ) : Type 0 where
+  one : kind_of x ≡ 0 → number_of x < 257 → kind_of y ≡ 3 → number_of y < 65536 → ShapeOf r x y
+  two : kind_of x ≡ 1 → number_of x < r → kind_of y ≡ 2 → number_of y < r → ShapeOf r x y
+
+abbrev pub Shape : List ℕ → ℕ → Type 0
+Shape t r = ShapeOf r (get_or t (2 * r) 0) (get_or t (2 * r + 1) 0)
 
 -- no word of the table is bad, and its words are even in number
 pub record Shaped (t : List ℕ) : Type 0 where
@@ -61,16 +63,10 @@ pub second_pair : (r x y : ℕ) → kind_of x ≡ 1 → bad_second r x y ≡ fal
 unfolding bad_second
 second_pair r x y e f = not-false (eqb (kind_of y) 2 && ltb (number_of y) r) (sym (or-false (not (eqb (kind_of y) 2 && ltb (number_of y) r))) ∙ rw e at f)
 
-pub shape : (t : List ℕ) (r : ℕ) → Shaped t → r < rule_count t → Shape t r
+pub words_shape : (r x y : ℕ) → bad_first r x ≡ false → bad_second r x y ≡ false → ShapeOf r x y
 unfolding bad_first
-shape t r s h = go (or_cases (eqb k 0 && leb n 256) (eqb k 1 && ltb n r) (not-false ((eqb k 0 && leb n 256) || (eqb k 1 && ltb n r)) (first_good t r s h)))
+words_shape r x y first second = go (or_cases (eqb k 0 && leb n 256) (eqb k 1 && ltb n r) (not-false ((eqb k 0 && leb n 256) || (eqb k 1 && ltb n r)) first))
   where
-    x : ℕ
-    x = get_or t (2 * r) 0
-
-    y : ℕ
-    y = get_or t (2 * r + 1) 0
-
     k : ℕ
     k = kind_of x
 
@@ -90,17 +86,20 @@ shape t r s h = go (or_cases (eqb k 0 && leb n 256) (eqb k 1 && ltb n r) (not-fa
     small true e q = omega (arith, rw e at q)
     small false e q = omega (arith, rw e at q)
 
-    go : (eqb k 0 && leb n 256 ≡ true) ⊎ (eqb k 1 && ltb n r ≡ true) → Shape t r
+    go : (eqb k 0 && leb n 256 ≡ true) ⊎ (eqb k 1 && ltb n r ≡ true) → ShapeOf r x y
     go (inl e) =
         let z = eqb-true k 0 (and_left (eqb k 0) (leb n 256) e) in
-        let f = second_symbol r x y z (second_good t r s h) in
+        let f = second_symbol r x y z second in
         let b = leb-true n 256 (and_right (eqb k 0) (leb n 256) e) in
         one z (omega (arith, b)) (eqb-true l 3 (and_left (eqb l 3) (leb m most) f))
         (small (eqb r 0) refl (leb-true m most (and_right (eqb l 3) (leb m most) f)))
     go (inr e) =
         let z = eqb-true k 1 (and_left (eqb k 1) (ltb n r) e) in
-        let f = second_pair r x y z (second_good t r s h) in
+        let f = second_pair r x y z second in
         two z (ltb-true n r (and_right (eqb k 1) (ltb n r) e)) (eqb-true l 2 (and_left (eqb l 2) (ltb m r) f)) (ltb-true m r (and_right (eqb l 2) (ltb m r) f))
+
+pub shape : (t : List ℕ) (r : ℕ) → Shaped t → r < rule_count t → Shape t r
+shape t r s h = words_shape r (get_or t (2 * r) 0) (get_or t (2 * r + 1) 0) (first_good t r s h) (second_good t r s h)
 
 -- beside a symbol stands the chair number in rule 0, and 0 in any other
 pub symbol_beside : (t : List ℕ) (r : ℕ) → Shaped t → r < rule_count t → kind_of (get_or t (2 * r) 0) ≡ 0 → number_of (get_or t (2 * r + 1) 0) ≡ beside (chair_of t) r

@@ -7,9 +7,8 @@ use native.Mathlib.Omega.{arith}
 use Rattle.std.proofs.Math.ListN.{length}
 use borrow.Author.Tests.{le-ltb, ltb-false}
 use Rattle.definitions.specs.declared.Order.{Order}
-use Rattle.definitions.specs.declared.Answer.{Answer}
 use Rattle.definitions.specs.Table.{table_of}
-use Rattle.definitions.specs.Services.{Service, done, result_slice, first_met, outcome, slices_after, Serves, Answers, text_too_long, build_service}
+use Rattle.definitions.specs.Services.{Answer, Service, done, result_slice, first_met, outcome, slices_after, Serves, Answers, text_too_long, build_service}
 use Rattle.lists.specs.Serving.{by}
 use Rattle.lyndon.specs.Ranks.{Bytes}
 use Rattle.lyndon.specs.Stored.{Stored, table_size}

@@ -16,7 +16,7 @@ pub fn lyndon_length(table: &[u32], position: usize, work: &mut [u32]) -> Answer
     ensures { Serves (lyndon_length_service sample_order table.now position work.old) (Answers result) (work.new ∷ []) }
 {
     let a = admit(SAMPLE_ORDER, table, work);
-    let Answer::Done(rules) = a else {
+    let Ok(rules) = a else {
         return a;
     };
     let b = length_loaded(position, rules, &mut work[0..WORK]);
@@ -29,7 +29,7 @@ pub fn lyndon_array(table: &[u32], work: &mut [u32], res: &mut [u32]) -> Answer
     ensures { Serves (lyndon_array_service sample_order table.now work.old res.old) (Answers result) (work.new ∷ res.new ∷ []) }
 {
     let a = admit(SAMPLE_ORDER, table, work);
-    let Answer::Done(rules) = a else {
+    let Ok(rules) = a else {
         return a;
     };
     let written = array_loaded(rules, &mut work[0..WORK], res);

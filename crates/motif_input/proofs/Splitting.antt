@@ -1,16 +1,16 @@
 -- The input split at its first byte 10: the motif is its front, and the drive stands behind that byte.
-use mathlib.Core.Path.{◌≡◌, refl, ◌∙◌, ap}
+use mathlib.Core.Path.{◌≡◌, refl, sym, ◌∙◌, ap}
 use mathlib.Core.Bool.{Bool, true, false, cond}
 use mathlib.Core.List.Memᴰ.{tail as there}
 use mathlib.Core.List.{List, [], ◌∷◌, Memᴰ as In}
-use Prim.Native.Nat.{ℕ, suc, ◌+◌, ◌-◌, ◌≤◌, ◌<◌}
+use Prim.Native.Nat.{ℕ, suc, ◌+◌, ◌-◌, ◌≤◌, ◌<◌, min}
 use native.Mathlib.Omega.{arith}
 use native.Mathlib.Numerals.{add-one}
-use lib.ListN.{length, take, drop, get_or, drop_of_length-le}
-use lib.Seq.{drop-cons}
+use lib.ListN.{length, take, drop, get_or}
 use lib.Dec.{eqb}
 use borrow.Author.Tests.{eq-eqb, ne_eqb}
 use Rattle.definitions.specs.Programs.{motif_of, drive_of}
+use Rattle.lists.specs.Numbers.{split_le}
 use Rattle.lyndon.specs.Ranks.{Bytes, slice_bytes}
 
 motif_front : (s : List ℕ) → take (length (motif_of s)) s ≡ motif_of s
@@ -58,13 +58,26 @@ drive_none (b ∷ s) h = go (eqb b 10) (λ k. drive_none s k) h
     go false ih k = ih (omega arith)
 
 -- where the drive starts, n bytes being the motif
-pub behind_ten : (s : List ℕ) (n : ℕ) → n ≡ length (motif_of s) → n < length s → (n + 1 ≤ length s) × (drop (n + 1) s ≡ drive_of s)
-behind_ten s n e h =
-    let next : n + 1 ≡ suc (length (motif_of s)) = omega arith in
-    (omega arith, ap (λ (k : ℕ). drop k s) next ∙ drive_behind s (omega arith))
+pub drive_starts : (s : List ℕ) (n : ℕ) → n ≡ length (motif_of s) → (min (n + 1) (length s) ≤ length s) × (drop (min (n + 1) (length s)) s ≡ drive_of s)
+drive_starts s n e = (
+  omega arith,
+  split_le (length s) n
+      (λ h. let last : min (n + 1) (length s) ≡ length (motif_of s) = omega (arith, motif_fits s) in ap (λ (k : ℕ). drop k s) last ∙ drive_none s (omega arith))
+      (λ h. let next : min (n + 1) (length s) ≡ suc (length (motif_of s)) = omega arith in ap (λ (k : ℕ). drop k s) next ∙ drive_behind s (omega arith)),
+)
 
-pub at_end : (s : List ℕ) (n : ℕ) → n ≡ length (motif_of s) → length s ≤ n → (n ≤ length s) × (drop n s ≡ drive_of s)
-at_end s n e h = (omega (arith, motif_fits s), ap (λ (k : ℕ). drop k s) e ∙ drive_none s (omega arith))
+-- the motif ends at the first byte 10
+pub ten_here : (b : ℕ) (s : List ℕ) → b ≡ 10 → length (motif_of (b ∷ s)) ≡ 0
+unfolding motif_of
+ten_here b s e = rw (eq-eqb b 10 e)
+
+pub ten_later : (b : ℕ) (s : List ℕ) → (b ≡ 10 → ⊥) → length (motif_of (b ∷ s)) ≡ length (motif_of s) + 1
+unfolding motif_of
+ten_later b s n = rw (ne_eqb b 10 n) (sym (add-one (length (motif_of s))))
+
+pub no_byte : length (motif_of []) ≡ 0
+unfolding motif_of
+no_byte = refl
 
 -- ---- the drive's samples are bytes of the input
 
@@ -79,25 +92,3 @@ in_drive_lem (b ∷ s) x m = go (eqb b 10) (λ k. in_drive_lem s x k) m
 
 pub drive_bytes : (s : List ℕ) → ((i : ℕ) → i < length s → get_or s i 0 < 256) → Bytes (drive_of s)
 drive_bytes s h x m = slice_bytes s h x (in_drive_lem s x m)
-
--- ---- the search for byte 10: what is passed belongs to the motif, and the rest decides
-
-module _ (s : List ℕ) (i : ℕ) (h : i < length s) where
-  heads : motif_of (drop i s) ≡ cond (eqb (get_or s i 0) 10) [] (get_or s i 0 ∷ motif_of (drop (suc i) s))
-  unfolding motif_of
-  heads = ap motif_of (drop-cons s i 0 h)
-
-  pub ends_here : get_or s i 0 ≡ 10 → length (motif_of s) ≡ i + length (motif_of (drop i s)) → i ≡ length (motif_of s)
-  ends_here e f =
-      let none : motif_of (drop i s) ≡ [] = heads ∙ rw (eq-eqb (get_or s i 0) 10 e) in
-      omega (arith, ap length none)
-
-  pub goes_on : (get_or s i 0 ≡ 10 → ⊥) → length (motif_of s) ≡ i + length (motif_of (drop i s)) → length (motif_of s) ≡ i + 1 + length (motif_of (drop (i + 1) s))
-  goes_on n f =
-      let more : motif_of (drop i s) ≡ get_or s i 0 ∷ motif_of (drop (suc i) s) = heads ∙ rw (ne_eqb (get_or s i 0) 10 n) in
-      let next : length (motif_of (drop (i + 1) s)) ≡ length (motif_of (drop (suc i) s)) = ap (λ (k : ℕ). length (motif_of (drop k s))) (add-one i) in
-      omega (arith, ap length more)
-
-pub ends_last : (s : List ℕ) (i : ℕ) → length s ≤ i → length (motif_of s) ≡ i + length (motif_of (drop i s)) → i ≡ length (motif_of s)
-unfolding motif_of
-ends_last s i h f = omega (arith, ap (λ (l : List ℕ). length (motif_of l)) (drop_of_length-le s h))

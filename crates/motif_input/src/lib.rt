@@ -3,18 +3,19 @@
 
 ghost use Rattle.std.specs.Prelude.{◌≡◌, ◌≤◌, length, drop};
 ghost use Rattle.definitions.specs.Programs.{motif_of, drive_of, input_too_long};
+ghost use Rattle.definitions.specs.Services.{outcome_of};
 ghost use Rattle.lists.specs.Decisions.{checked};
 
-use definitions::Answer;
+use definitions::{Answer, Refusal};
 
 // Refusal 1 of an input, or its length.
 pub fn input_fits(input: &[u8]) -> Answer
-    ensures { result ≡ checked (input_too_long input.now) (length input.now) }
+    ensures { outcome_of result ≡ checked (input_too_long input.now) (length input.now) }
 {
     if 4095 < input.len() {
-        Answer::Refused(1, 0)
+        Err(Refusal::TextTooLong)
     } else {
-        Answer::Done(input.len())
+        Ok(input.len())
     }
 }
 
@@ -22,23 +23,15 @@ pub fn input_fits(input: &[u8]) -> Answer
 pub fn drive_start(input: &[u8]) -> usize
     ensures { (result ≤ length input.now) × (drop result input.now ≡ drive_of input.now) }
 {
-    let n = motif_length(input);
-    if n < input.len() {
-        return n + 1;
-    }
-    n
+    (motif_length(input) + 1).min(input.len())
 }
 
 // How many bytes stand before the first byte 10: all where there is none.
 pub fn motif_length(input: &[u8]) -> usize
     ensures { result ≡ length (motif_of input.now) }
 {
-    let mut i = 0;
-    while i < input.len() {
-        if input[i] == 10 {
-            return i;
-        }
-        i += 1;
-    }
-    i
+    input
+        .iter()
+        .position(|byte| *byte == 10)
+        .unwrap_or(input.len())
 }

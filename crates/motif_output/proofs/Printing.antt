@@ -7,12 +7,12 @@ use native.Mathlib.Omega.{arith}
 use lib.ListN.{length, take, length-take, length-append}
 use lib.Dec.{ltb}
 use borrow.Author.Tests.{lt-ltb, ltb-false}
+use Rattle.definitions.specs.declared.Refusal.{Refusal}
 use Rattle.definitions.specs.declared.Order.{Order}
-use Rattle.definitions.specs.declared.Answer.{Answer}
-use Rattle.definitions.specs.declared.Answer.TheVariants.{Done, Refused}
+use Rattle.std.specs.declared.result.Result.TheVariants.{Ok, Err}
 use Rattle.definitions.specs.Table.{table_of, rule_count}
 use Rattle.definitions.specs.Occurrences.{occurrences}
-use Rattle.definitions.specs.Services.{Check, first_met, result_slice, Serves, Answers, text_too_long, sample_order, pattern_checks}
+use Rattle.definitions.specs.Services.{Answer, Check, first_met, result_slice, Serves, Answers, text_too_long, sample_order, pattern_checks}
 use Rattle.definitions.specs.Programs.{decimal, named, lines_of, refused_line, printed, motif_of, drive_of, input_too_long, rules_name, found_name, found_lines, motif_output}
 use Rattle.lines.specs.Lines.{refusal}
 use Rattle.lines.proofs.Lines.{named_most, decimals_most}
@@ -42,9 +42,9 @@ module _ (input : List ℕ) (r : Answer) (old table : List ℕ) (v : Serves (dri
   unfolding motif_output search_output printed first_met
   output = refl
 
-  pub drive_refused : (x y : ℕ) → r ≡ Refused x y → refusal r ≡ motif_output sample_order input
+  pub drive_refused : {f : Refusal} → r ≡ Err f → refusal r ≡ motif_output sample_order input
   unfolding drive_step first_met
-  drive_refused x y q =
+  drive_refused q =
       refusal_printed drive_checks (length t) (result_slice t old ∷ []) v q (search_output sample_order input) (motif_output sample_order input) output
 
   short : (a b : Bool) → cond a true (cond b true false) ≡ false → b ≡ false
@@ -52,7 +52,7 @@ module _ (input : List ℕ) (r : Answer) (old table : List ℕ) (v : Serves (dri
   short false true e = e
   short false false e = refl
 
-  pub drive_done : (k : ℕ) → r ≡ Done k
+  pub drive_done : (k : ℕ) → r ≡ Ok k
       → (k ≤ length table) × Built input (take (k - 0) table) × (search_output sample_order input ≡ motif_output sample_order input)
   unfolding drive_step first_met
   drive_done k q =
@@ -76,12 +76,12 @@ module _ (input : List ℕ) (r : Answer) (old positions : List ℕ) (v : Serves 
   unfolding search_output
   found_output = refl
 
-  pub motif_refused : (x y : ℕ) → r ≡ Refused x y → refusal r ≡ search_output sample_order input
+  pub motif_refused : {f : Refusal} → r ≡ Err f → refusal r ≡ search_output sample_order input
   unfolding motif_step pattern_checks first_met
-  motif_refused x y q =
+  motif_refused q =
       refusal_printed (pattern_checks (motif_of input)) (length finds) (result_slice finds old ∷ []) v q l (search_output sample_order input) found_output
 
-  pub motif_done : (k : ℕ) → r ≡ Done k
+  pub motif_done : (k : ℕ) → r ≡ Ok k
       → (k ≤ length positions) × (take (k - 0) positions ≡ occurrences (motif_of input) (drive_of input)) × (l ≡ search_output sample_order input)
   unfolding motif_step
   motif_done k q =

@@ -7,18 +7,18 @@ use native.Mathlib.Omega.{arith}
 use lib.ListN.{length, get_or}
 use lib.Dec.{ltb, eqb}
 use borrow.Author.Tests.{le-ltb, eqb-false}
+use Rattle.definitions.specs.declared.Refusal.{Refusal}
 use Rattle.definitions.specs.declared.Order.{Order}
 use Rattle.definitions.specs.declared.Content.TheVariants.{Samples}
-use Rattle.definitions.specs.declared.Answer.{Answer}
-use Rattle.definitions.specs.declared.Answer.TheVariants.{Refused}
+use Rattle.std.specs.declared.result.Result.TheVariants.{Err}
 use Rattle.definitions.specs.declared.Search.{Search}
 use Rattle.definitions.specs.Table.{table_of}
 use Rattle.definitions.specs.Occurrences.{occurrences}
 use Rattle.definitions.specs.Steps.{finds}
-use Rattle.definitions.specs.Services.{Outcome, first_met, outcome_of, outcome, slices_after, Serves, Answers, Searches, search_checks, pattern_checks, table_checks, build_service, locate_service}
+use Rattle.definitions.specs.Services.{alone, Answer, Outcome, first_met, outcome_of, outcome, slices_after, Serves, Answers, Searches, search_checks, pattern_checks, table_checks, build_service, locate_service}
 use Rattle.definitions.specs.Programs.{motif_of, drive_of, input_too_long}
 use Rattle.lists.specs.Decisions.{met, none, more, checked, refused_met}
-use Rattle.lists.specs.Serving.{refused_by, passed, alone, search_alone}
+use Rattle.lists.specs.Serving.{refused_by, passed, search_alone}
 use Rattle.lyndon.specs.Ranks.{Bytes}
 use Rattle.lyndon.specs.Occurrences.{occurrences_fewer}
 use Rattle.lyndon.specs.Stored.{Stored, Acceptable, passes, table_text}
@@ -28,10 +28,10 @@ use Rattle.motif_output.specs.Steps.{drive_step, motif_step}
 -- ---- the drive
 
 module _ (o : Order) (input : List ℕ) where
-  pub drive_long : (old : List ℕ) {a b : ℕ} (r : Answer) → r ≡ checked (input_too_long input) (length input) → r ≡ Refused a b
+  pub drive_long : (old : List ℕ) {f : Refusal} (r : Answer) → outcome_of r ≡ checked (input_too_long input) (length input) → r ≡ Err f
       → Serves (drive_step o input old) (Answers r) (old ∷ [])
   unfolding outcome_of drive_step
-  drive_long old r e f = let (q, h) = refused_met (input_too_long input) (length input) e f in refused_by (input_too_long input) (met q) (ap outcome_of h) refl
+  drive_long old r e f = let (q, h) = refused_met (input_too_long input) (length input) e f in refused_by (input_too_long input) (met q) h refl
 
   module _ (old work : List ℕ) (long : 16384 ≤ length work) (room : 4608 ≤ length old) (h : length input ≤ 4095) (b : Bytes (drive_of input)) where
     pub drive_built : (text work' new : List ℕ) (r : Answer) → text ≡ drive_of input

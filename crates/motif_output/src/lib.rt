@@ -19,7 +19,7 @@ pub fn answer(input: &[u8], out: &mut [u8]) -> usize
 {
     let mut table = [0u32; 4608];
     let a = build_drive(input, &mut table);
-    let Answer::Done(words) = a else {
+    let Ok(words) = a else {
         return put_refusal(a, out);
     };
     answer_built(input, &table[0..words], out)
@@ -33,7 +33,7 @@ fn answer_built<'a>(input: &'a [u8], table: &'a [u32], out: &mut [u8]) -> usize
 {
     let mut positions = [0u32; 2047];
     let a = locate_motif(input, table, &mut positions);
-    let Answer::Done(n) = a else {
+    let Ok(n) = a else {
         return put_refusal(a, out);
     };
     rules_and_found(table.len() / 2, &positions[0..n], out)
@@ -45,7 +45,7 @@ fn build_drive(input: &[u8], table: &mut [u32]) -> Answer
     ensures { Serves (drive_step sample_order input.now table.old) (Answers result) (table.new ∷ []) }
 {
     let size = input_fits(input);
-    let Answer::Done(_) = size else {
+    let Ok(_) = size else {
         return size;
     };
     let from = drive_start(input);

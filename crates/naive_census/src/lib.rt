@@ -13,15 +13,9 @@ pub fn distinct_runs(drive: &[u8], q: usize) -> usize
     requires { (length drive.now ≤ 2047) × (0 < q) }
     ensures { result ≡ length (census_runs sample_order q drive.now) }
 {
-    let mut i = 0;
-    let mut n = 0;
-    while q <= drive.len() - i {
-        if !stands_later(drive, i, q) {
-            n += 1;
-        }
-        i += 1;
-    }
-    n
+    (0..drive.len())
+        .filter(|i| q <= drive.len() - *i && !stands_later(drive, *i, q))
+        .count()
 }
 
 // Whether the run of q samples at place i stands at a later place too.
@@ -30,7 +24,5 @@ fn stands_later(drive: &[u8], i: usize, q: usize) -> bool
     ensures { result ≡ ltb 0 (length (occurrences (take q (drop i drive.now)) (drop (i + 1) drive.now))) }
 {
     let mut places = [0u32; 2048];
-    let end = i + q;
-    let next = i + 1;
-    0 < scan(&drive[i..end], &drive[next..], &mut places)
+    0 < scan(&drive[i..i + q], &drive[i + 1..], &mut places)
 }

@@ -8,7 +8,6 @@ ghost use Rattle.definitions.specs.Occurrences.{not_greater_at_difference, is_li
 ghost use Rattle.definitions.specs.Table.{rank_of};
 ghost use Rattle.definitions.specs.Services.{sample_order};
 
-use naive::noted;
 use naive_words::{is_lyndon, is_smaller};
 
 // Writes the cuts of the pattern that are listed to the front of a slice, and answers how many there are.
@@ -17,12 +16,12 @@ pub fn list(pattern: &[u8], cuts: &mut [u32]) -> usize
     ensures value { result ≡ length (pattern_cuts sample_order pattern.now) }
     ensures cuts_after { cuts.new ≡ placed (pattern_cuts sample_order pattern.now) cuts.old }
 {
-    let mut c = 1;
     let mut n = 0;
-    while c < pattern.len() {
-        let listed = is_listed(pattern, c);
-        n = noted(listed, c, n, cuts);
-        c += 1;
+    for c in 0..pattern.len() {
+        if is_listed(pattern, c) {
+            cuts[n] = c as u32;
+            n += 1;
+        }
     }
     n
 }
@@ -32,17 +31,7 @@ fn is_listed(pattern: &[u8], c: usize) -> bool
     requires { c ≤ length pattern.now }
     ensures { result ≡ is_listed (map (rank_of sample_order) pattern.now) c }
 {
-    if !is_live(pattern, c) {
-        return false;
-    }
-    let mut d = 1;
-    while d < c {
-        if word_again(pattern, d, c) {
-            return false;
-        }
-        d += 1;
-    }
-    true
+    is_live(pattern, c) && (1..c).all(|d| !word_again(pattern, d, c))
 }
 
 // Whether cut c is live: its tail is not greater at a difference beside the tail of any cut, from 1 on.
@@ -50,27 +39,14 @@ fn is_live(pattern: &[u8], c: usize) -> bool
     requires { c ≤ length pattern.now }
     ensures { result ≡ is_live (map (rank_of sample_order) pattern.now) c }
 {
-    let mut d = 1;
-    while d < pattern.len() {
-        if !not_greater(&pattern[c..], &pattern[d..]) {
-            return false;
-        }
-        d += 1;
-    }
-    0 < c
+    0 < c && (1..pattern.len()).all(|d| not_greater(&pattern[c..], &pattern[d..]))
 }
 
 // Whether the tails x and y agree as far as the shorter one goes, or x is smaller.
 fn not_greater<'a>(x: &'a [u8], y: &'a [u8]) -> bool
     ensures { result ≡ not_greater_at_difference (map (rank_of sample_order) x.now) (map (rank_of sample_order) y.now) }
 {
-    if is_prefix(x, y) {
-        return true;
-    }
-    if is_prefix(y, x) {
-        return true;
-    }
-    is_smaller(x, y)
+    is_prefix(x, y) || is_prefix(y, x) || is_smaller(x, y)
 }
 
 // Whether the stretch from d to c is a Lyndon word, the tail from c on begins with it, and the tail is longer.
@@ -78,25 +54,14 @@ fn word_again(pattern: &[u8], d: usize, c: usize) -> bool
     requires { (d ≤ c) × (c ≤ length pattern.now) }
     ensures { result ≡ word_again (map (rank_of sample_order) pattern.now) d c }
 {
-    if !is_lyndon(&pattern[d..c]) {
-        return false;
-    }
-    if !is_prefix(&pattern[d..c], &pattern[c..]) {
-        return false;
-    }
-    c - d < pattern.len() - c
+    let word = &pattern[d..c];
+    let tail = &pattern[c..];
+    is_lyndon(word) && is_prefix(word, tail) && word.len() < tail.len()
 }
 
-// Whether x is a prefix of y: it is neither smaller nor greater than as many samples of y.
+// Whether x is a prefix of y.
 fn is_prefix<'a>(x: &'a [u8], y: &'a [u8]) -> bool
     ensures { result ≡ begins (map (rank_of sample_order) x.now) (map (rank_of sample_order) y.now) }
 {
-    let n = x.len();
-    if y.len() < n {
-        return false;
-    }
-    if is_smaller(x, &y[0..n]) {
-        return false;
-    }
-    !is_smaller(&y[0..n], x)
+    y.starts_with(x)
 }

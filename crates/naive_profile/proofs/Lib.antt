@@ -1,1 +1,1 @@
-pub mod Lowest
+pub mod Judging

@@ -1,62 +1,69 @@
--- While the steps of a pattern and those from a position of the drive on agree, the rest decides (`starts`, `agrees`, `differs`, `drive_ends`, `pattern_ends`); the positions
--- below the one reached from which they follow are the finds once all are passed (`all_noted`).
-use mathlib.Core.Path.{◌≡◌, sym, ◌∙◌, ap, ap₂}
+-- Following: the steps of a string begin with those of a pattern where each step of the pattern has its like there (`followed`); the positions below the one reached from
+-- which they follow are the finds once all are passed (`all_noted`).
+use mathlib.Core.Path.{◌≡◌, refl, sym, ◌∙◌, ap, subst}
 use mathlib.Core.Bool.{Bool, true, false, ◌&&◌}
 use mathlib.Core.List.{List, [], ◌∷◌}
-use Prim.Native.Nat.{ℕ, suc, ◌+◌, ◌≤◌, ◌<◌}
+use Prim.Native.Nat.{ℕ, zero, suc, ◌+◌, ◌-◌, ◌≤◌, ◌<◌}
 use native.Mathlib.Omega.{arith}
-use lib.ListN.{length, drop, get_or, length-drop}
-use lib.Seq.{drop-cons}
-use lib.Dec.{eqb}
-use borrow.Author.Tests.{eq-eqb, ne_eqb}
+use native.Mathlib.Numerals.{add-one}
+use lib.ListN.{length, drop, get_or}
+use lib.Dec.{ltb, eqb}
+use borrow.Author.Tests.{lt-ltb, ltb-true, eq-eqb, eqb-true}
+use Rattle.std.specs.Bool.{MatchBool}
+use Rattle.std.specs.List.{list_all, range_with_len}
 use Rattle.definitions.specs.Words.{below, begins}
 use Rattle.definitions.specs.Steps.{step, steps_of, step_finds}
-use Rattle.lists.specs.Lists.{empty}
-use Rattle.lyndon.specs.Steps.{steps_size}
+use Rattle.lists.specs.Bools.{contra, not_so, and_left, and_right, and_intro}
+use Rattle.lists.specs.Numbers.{split_le, split_lt}
+use Rattle.lists.specs.Strings.{begins_entries, entries_begin}
+use Rattle.lyndon.specs.Steps.{steps_at, steps_size}
 
--- the next step of a string, and none at its end
-next_step : (x : List ℕ) (k : ℕ) → k + 1 < length x → steps_of (drop k x) ≡ step (get_or x k 0) (get_or x (k + 1) 0) ∷ steps_of (drop (k + 1) x)
-unfolding steps_of
-next_step x k h =
-    let a = get_or x k 0 in
-    let b = get_or x (k + 1) 0 in
-    let e : suc k ≡ k + 1 = omega arith in
-    let f : drop (k + 1) x ≡ b ∷ drop (suc (k + 1)) x = drop-cons x (k + 1) 0 h in
-    ap steps_of (drop-cons x k 0 (omega arith) ∙ ap (λ (n : ℕ). a ∷ drop n x) e ∙ ap (λ (l : List ℕ). a ∷ l) f)
-    ∙ ap (λ (l : List ℕ). step a b ∷ steps_of l) (sym f)
+step_after : (x : List ℕ) (j : ℕ) → j + 1 < length x → get_or (steps_of x) j 0 ≡ step (get_or x j 0) (get_or x (j + 1) 0)
+step_after [] j h = absurd (omega arith)
+step_after (a ∷ x) j h = rw add-one (steps_at a x j (omega arith))
 
-no_step_lem : (x : List ℕ) (k : ℕ) → length x ≤ k + 1 → steps_of (drop k x) ≡ []
-no_step_lem x k h = empty (steps_of (drop k x)) (omega (arith, steps_size (drop k x), length-drop k x))
+step_before : (x : List ℕ) (k : ℕ) → 1 ≤ k → k < length x → get_or (steps_of x) (k - 1) 0 ≡ step (get_or x (k - 1) 0) (get_or x k 0)
+step_before x k a h =
+    let e : k - 1 + 1 ≡ k = omega arith in
+    step_after x (k - 1) (omega arith) ∙ ap (λ (n : ℕ). step (get_or x (k - 1) 0) (get_or x n 0)) e
 
-module _ (p x : List ℕ) (i k : ℕ) where
-  module _ (h : k + 1 < length p) where
-    module _ (l : i + k + 1 < length x) where
-      heads : begins (steps_of (drop k p)) (steps_of (drop (i + k) x))
-          ≡ eqb (step (get_or p k 0) (get_or p (k + 1) 0)) (step (get_or x (i + k) 0) (get_or x (i + k + 1) 0)) && begins (steps_of (drop (k + 1) p)) (steps_of (drop (i + k + 1) x))
-      unfolding begins
-      heads = ap₂ {C = Bool} begins (next_step p k h) (next_step x (i + k) l)
+-- the numbers from a on, tried one by one
+tried : (f : ℕ → Bool) (a n : ℕ) → MatchBool (list_all f (range_with_len a n)) ((k : ℕ) → a ≤ k → k < a + n → f k ≡ true) ((k : ℕ) × (a ≤ k) × (k < a + n) × (f k ≡ false))
+tried f a zero = λ k l m. absurd (omega arith)
+tried f a (suc n) = go (f a) refl (list_all f (range_with_len (a + 1) n)) (tried f (a + 1) n)
+  where
+    go : (b : Bool) → f a ≡ b → (c : Bool) → MatchBool c ((k : ℕ) → a + 1 ≤ k → k < a + 1 + n → f k ≡ true) ((k : ℕ) × (a + 1 ≤ k) × (k < a + 1 + n) × (f k ≡ false))
+        → MatchBool (b && c) ((k : ℕ) → a ≤ k → k < a + suc n → f k ≡ true) ((k : ℕ) × (a ≤ k) × (k < a + suc n) × (f k ≡ false))
+    go true e true h = λ k l m. split_lt a k (λ x. h k (omega arith) (omega arith)) (λ q. subst (λ (j : ℕ). f j ≡ true) q e) (λ x. absurd (omega arith))
+    go true e false (k, l, m, q) = (k, omega arith, omega arith, q)
+    go false e c h = (a, omega arith, omega arith, e)
 
-      pub agrees : step (get_or p k 0) (get_or p (k + 1) 0) ≡ step (get_or x (i + k) 0) (get_or x (i + k + 1) 0)
-          → begins (steps_of (drop k p)) (steps_of (drop (i + k) x)) ≡ begins (steps_of (drop (k + 1) p)) (steps_of (drop (i + (k + 1)) x))
-      agrees e =
-          let next : i + k + 1 ≡ i + (k + 1) = omega arith in
-          heads ∙ (rw (eq-eqb _ _ e)) ∙ ap (λ (n : ℕ). begins (steps_of (drop (k + 1) p)) (steps_of (drop n x))) next
+module _ (p x : List ℕ) where
+  -- x has a sample k, and the step to it is that to sample k of p
+  abbrev pub same_step : ℕ → Bool
+  same_step k = ltb k (length x) && eqb (step (get_or x (k - 1) 0) (get_or x k 0)) (step (get_or p (k - 1) 0) (get_or p k 0))
 
-      pub differs : (step (get_or p k 0) (get_or p (k + 1) 0) ≡ step (get_or x (i + k) 0) (get_or x (i + k + 1) 0) → ⊥) → begins (steps_of (drop k p)) (steps_of (drop (i + k) x)) ≡ false
-      differs n = heads ∙ rw (ne_eqb _ _ n)
-
-    pub drive_ends : length x ≤ i + k + 1 → begins (steps_of (drop k p)) (steps_of (drop (i + k) x)) ≡ false
-    unfolding begins
-    drive_ends l = ap₂ {C = Bool} begins (next_step p k h) (no_step_lem x (i + k) l)
-
-  pub starts : k ≡ 0 → begins (steps_of p) (steps_of (drop i x)) ≡ begins (steps_of (drop k p)) (steps_of (drop (i + k) x))
-  starts e =
-      let same : i ≡ i + k = omega arith in
-      ap₂ {C = Bool} (λ m n. begins (steps_of (drop m p)) (steps_of (drop n x))) (sym e) same
-
-  pub pattern_ends : length p ≤ k + 1 → begins (steps_of (drop k p)) (steps_of (drop (i + k) x)) ≡ true
-  unfolding begins
-  pattern_ends h = ap (λ (l : List ℕ). begins l (steps_of (drop (i + k) x))) (no_step_lem p k h)
+  pub followed : list_all same_step (range_with_len 1 (length p - 1)) ≡ begins (steps_of p) (steps_of x)
+  followed = go (list_all same_step (range_with_len 1 (length p - 1))) (tried same_step 1 (length p - 1))
+    where
+      go : (b : Bool) → MatchBool b ((k : ℕ) → 1 ≤ k → k < 1 + (length p - 1) → same_step k ≡ true) ((k : ℕ) × (1 ≤ k) × (k < 1 + (length p - 1)) × (same_step k ≡ false))
+          → b ≡ begins (steps_of p) (steps_of x)
+      go true h = sym (entries_begin (steps_of p) (steps_of x) (split_le (length p) 1
+          (λ l. omega (arith, steps_size p))
+          (λ l. let m : length p - 1 < length x = ltb-true _ _ (and_left _ _ (h (length p - 1) (omega arith) (omega arith))) in omega (arith, steps_size p, steps_size x)))
+          (λ j l.
+          let m : j + 1 < length p = omega (arith, steps_size p) in
+          let q = h (j + 1) (omega arith) (omega arith) in
+          let o : j + 1 - 1 ≡ j = omega arith in
+          step_after x j (ltb-true _ _ (and_left _ _ q))
+          ∙ ap (λ (i : ℕ). step (get_or x i 0) (get_or x (j + 1) 0)) (sym o)
+          ∙ eqb-true _ _ (and_right _ _ q)
+          ∙ ap (λ (i : ℕ). step (get_or p i 0) (get_or p (j + 1) 0)) o
+          ∙ sym (step_after p j m)))
+      go false (k, a, l, n) = sym (not_so (begins (steps_of p) (steps_of x)) (λ q.
+          let (m, e) = begins_entries (steps_of p) (steps_of x) q in
+          let o : k < length x = omega (arith, steps_size p, steps_size x) in
+          contra (and_intro _ _ (lt-ltb k (length x) o) (eq-eqb _ _ (sym (step_before x k a o) ∙ e (k - 1) (omega (arith, steps_size p)) ∙ step_before p k a (omega arith)))) n))
 
 -- ---- the positions passed
 

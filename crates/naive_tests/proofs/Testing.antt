@@ -1,19 +1,21 @@
--- Tests. Rules are measured from the first up (`none_measured` to `all_measured`): a word names one that is measured, or none (`named`, `none_named`), and a rule's length comes
--- from its words (`symbol_length`, `pair_length`). A rule is tested at a cut by these lengths (`no_pair` to `right_decides`); tests are counted cut by cut and rule by rule (`one_tested` on).
-use mathlib.Core.Path.{◌≡◌, refl, sym, ◌∙◌, ap, subst}
+-- Tests. Rules are measured from the first up (`one_measured`): a word names one that is measured, or none (`named`, `none_named`), and a rule's length comes
+-- from its words (`symbol_length`, `pair_length`). A rule is tested at a cut by these lengths (`no_pair` to `right_decides`); tests are counted cut by cut (`cuts_tested`) and rule by rule (`rules_tested`).
+use mathlib.Core.Path.{◌≡◌, refl, sym, ◌∙◌, ap}
 use mathlib.Core.Bool.{Bool, true, false, cond, ◌&&◌}
-use mathlib.Core.List.{List, [], ◌∷◌, ◌++◌}
+use mathlib.Core.List.{List, [], ◌∷◌, ◌++◌, map}
 use Prim.Native.Nat.{ℕ, zero, suc, ◌+◌, ◌-◌, ◌*◌, ◌/◌, ◌%◌, ◌≤◌, ◌<◌}
 use native.Mathlib.Omega.{arith}
 use native.Mathlib.Numerals.{add-one}
-use lib.ListN.{length, drop, get_or, set, length-set, length-append, get_or-append, get_or-eq_default, drop_of_length-le}
-use lib.Seq.{drop-cons, get_or_at, get_or-set_same, get_or-set_other}
+use lib.ListN.{length, get_or, set, length-set, length-append, get_or-append, get_or-eq_default}
+use lib.Seq.{get_or_at, get_or-set_same, get_or-set_other}
 use lib.Dec.{ltb, leb, eqb}
 use borrow.Author.Tests.{lt-ltb, le-leb, lt-leb, eq-eqb, ne_eqb}
 use Rattle.definitions.specs.declared.Order.{Order}
 use Rattle.definitions.specs.Table.{kind_of, number_of, string_of, strings, rule_string, rule_count, is_pair, left_half, right_half}
 use Rattle.definitions.specs.Occurrences.{fits_join, is_tested, tests_of, tests_below}
 use Rattle.lists.specs.Numbers.{split_le, split_lt}
+use Rattle.std.specs.List.{filter, sum, range_with_len}
+use Rattle.std.proofs.lemmas.List.Sums.{sum_by-cons}
 use Rattle.naive_tests.specs.Lengths.{kept, Measured}
 
 -- ---- lengths
@@ -49,9 +51,6 @@ module _ (o : Order) (before : List (List ℕ)) (x y : ℕ) where
       → kept (a + b) ≡ kept (length (string_of o before x y))
   pair_length d a b e f = omega (arith, both_lengths d)
 
-pub none_measured : (t l : List ℕ) → Measured t 0 l
-none_measured t l = record { room = omega arith; sizes = λ o q h. absurd (omega arith) }
-
 pub one_measured : (t l : List ℕ) (n k : ℕ) → n < length l → Measured t n l
     → ((o : Order) → k ≡ kept (length (string_of o (strings o t n) (get_or t (2 * n) 0) (get_or t (2 * n + 1) 0)))) → Measured t (n + 1) (set l n k)
 one_measured t l n k h s e = record { room = simp length-set (omega arith); sizes = more }
@@ -65,9 +64,6 @@ one_measured t l n k h s e = record { room = simp length-set (omega arith); size
         (λ a. get_or-set_other l n q k 0 (λ z. omega arith) ∙ s.sizes o q a ∙ sym (ap (λ (u : List ℕ). kept (length u)) (get_or-append (strings o t n) (new ∷ []) [] q (omega arith))))
         (λ a. rw a (get_or-set_same l n k 0 h ∙ e o ∙ sym (ap (λ (u : List ℕ). kept (length u)) (get_or_at (strings o t n) new [] [] n size))))
         (λ a. absurd (omega arith)))
-
-pub all_measured : (t l : List ℕ) (n : ℕ) → n ≡ rule_count t → Measured t n l → Measured t (rule_count t) l
-all_measured t l n e s = subst (λ (k : ℕ). Measured t k l) e s
 
 -- ---- a rule and a cut
 
@@ -102,30 +98,51 @@ module _ (o : Order) (t : List ℕ) (m r c : ℕ) where
 
 -- ---- tests counted
 
-module _ (o : Order) (t : List ℕ) (m r : ℕ) (cuts : List ℕ) (i : ℕ) (h : i < length cuts) where
-  rest : tests_of o t m (drop i cuts) r ≡ cond (is_tested o t m r (get_or cuts i 0)) (record { rule = r; cut = get_or cuts i 0 } ∷ []) [] ++ tests_of o t m (drop (i + 1) cuts) r
-  unfolding tests_of
-  rest = rw (add-one i) (ap (λ (l : List ℕ). tests_of o t m l r) (drop-cons cuts i 0 h))
-
-  module _ (b : Bool) (e : b ≡ is_tested o t m r (get_or cuts i 0)) where
-    pub one_tested : b ≡ true → length (tests_of o t m (drop i cuts) r) ≡ length (tests_of o t m (drop (i + 1) cuts) r) + 1
-    one_tested d = ap length rest ∙ rw (sym e ∙ d) (omega arith)
-
-    pub none_tested : b ≡ false → length (tests_of o t m (drop i cuts) r) ≡ length (tests_of o t m (drop (i + 1) cuts) r)
-    none_tested d = ap length rest ∙ rw (sym e ∙ d)
-
-pub all_tested : (o : Order) (t : List ℕ) (m r : ℕ) (cuts : List ℕ) (i : ℕ) → length cuts ≤ i → length (tests_of o t m (drop i cuts) r) ≡ 0
+pub cuts_tested : (o : Order) (t : List ℕ) (m r : ℕ) (cuts : List ℕ) → length (filter (is_tested o t m r) cuts) ≡ length (tests_of o t m cuts r)
 unfolding tests_of
-all_tested o t m r cuts i h = rw (drop_of_length-le cuts h)
+cuts_tested o t m r [] = refl
+cuts_tested o t m r (c ∷ cuts) = go (is_tested o t m r c) refl (cuts_tested o t m r cuts)
+  where
+    go : (b : Bool) → is_tested o t m r c ≡ b → length (filter (is_tested o t m r) cuts) ≡ length (tests_of o t m cuts r)
+        → length (filter (is_tested o t m r) (c ∷ cuts)) ≡ length (cond (is_tested o t m r c) (record { rule = r; cut = c } ∷ []) [] ++ tests_of o t m cuts r)
+    go true e ih = rw e (ap suc ih)
+    go false e ih = rw e ih
+
+-- how many tests a rule has, at most one for each cut
+abbrev pub rule_tests : Order → List ℕ → ℕ → List ℕ → ℕ → ℕ
+rule_tests o t m cuts r = length (tests_of o t m cuts r)
+
+at_most : (o : Order) (t : List ℕ) (m : ℕ) (cuts : List ℕ) (r : ℕ) → rule_tests o t m cuts r ≤ length cuts
+unfolding tests_of
+at_most o t m [] r = omega arith
+at_most o t m (c ∷ cuts) r = go (is_tested o t m r c) (at_most o t m cuts r)
+  where
+    go : (b : Bool) → rule_tests o t m cuts r ≤ length cuts → length (cond b (record { rule = r; cut = c } ∷ []) [] ++ tests_of o t m cuts r) ≤ suc (length cuts)
+    go true ih = omega arith
+    go false ih = omega arith
 
 module _ (o : Order) (t : List ℕ) (m : ℕ) (cuts : List ℕ) where
-  pub no_rule : length (tests_below o t m cuts 0) ≡ 0
-  unfolding tests_below
-  no_rule = refl
-
-  pub rule_more : (r : ℕ) → length (tests_below o t m cuts (r + 1)) ≡ length (tests_below o t m cuts r) + length (tests_of o t m cuts r)
+  rule_more : (r : ℕ) → length (tests_below o t m cuts (r + 1)) ≡ length (tests_below o t m cuts r) + rule_tests o t m cuts r
   unfolding tests_below
   rule_more r = rw (add-one r) (length-append (tests_below o t m cuts r) (tests_of o t m cuts r))
 
-  pub all_rules : (r n : ℕ) → r ≡ n → length (tests_below o t m cuts r) ≡ length (tests_below o t m cuts n)
-  all_rules r n e = ap (λ (k : ℕ). length (tests_below o t m cuts k)) e
+  pub room : (a n : ℕ) → length cuts ≤ 64 → sum (map (rule_tests o t m cuts) (range_with_len a n)) ≤ 64 * n
+  room a zero h = omega arith
+  room a (suc n) h = omega (arith, at_most o t m cuts a, room (a + 1) n h, sum_by-cons (λ x. x) (rule_tests o t m cuts a) (map (rule_tests o t m cuts) (range_with_len (a + 1) n)))
+
+  rules_from : (a n : ℕ) → length (tests_below o t m cuts a) + sum (map (rule_tests o t m cuts) (range_with_len a n)) ≡ length (tests_below o t m cuts (a + n))
+  rules_from a zero =
+      let same : a + 0 ≡ a = omega arith in
+      omega (arith, ap (λ (k : ℕ). length (tests_below o t m cuts k)) same)
+  rules_from a (suc n) =
+      let next : a + 1 + n ≡ a + suc n = omega arith in
+      omega (arith, rule_more a, rules_from (a + 1) n, sum_by-cons (λ x. x) (rule_tests o t m cuts a) (map (rule_tests o t m cuts) (range_with_len (a + 1) n)), ap (λ (k : ℕ). length (tests_below o t m cuts k)) next)
+
+  pub rules_tested : (n : ℕ) → sum (map (rule_tests o t m cuts) (range_with_len 0 n)) ≡ length (tests_below o t m cuts n)
+  unfolding tests_below
+  rules_tested n =
+      let from : 0 + n ≡ n = omega arith in
+      sym (add_zero_left (sum (map (rule_tests o t m cuts) (range_with_len 0 n)))) ∙ rules_from 0 n ∙ ap (λ (k : ℕ). length (tests_below o t m cuts k)) from
+    where
+      add_zero_left : (k : ℕ) → 0 + k ≡ k
+      add_zero_left k = omega arith

@@ -20,13 +20,9 @@ pub fn count<'a>(table: &'a [u32], cuts: &'a [u32], m: usize) -> usize
 {
     let mut lengths = [0usize; 128];
     measure(table, &mut lengths);
-    let mut r = 0;
-    let mut n = 0;
-    while r < table.len() / 2 {
-        n += tests_of(table, &lengths, cuts, m, r);
-        r += 1;
-    }
-    n
+    (0..table.len() / 2)
+        .map(|r| tests_of(table, &lengths, cuts, m, r))
+        .sum()
 }
 
 // At how many of the cuts rule r is tested.
@@ -40,15 +36,9 @@ fn tests_of<'a>(
     requires { Measured table.now (rule_count table.now) lengths.now × (m ≤ 2047) × (r < rule_count table.now) }
     ensures { (result ≤ length cuts.now) × ((o : Order) → result ≡ length (tests_of o table.now m cuts.now r)) }
 {
-    let mut i = 0;
-    let mut n = 0;
-    while i < cuts.len() {
-        if is_tested(table, lengths, m, r, cuts[i]) {
-            n += 1;
-        }
-        i += 1;
-    }
-    n
+    cuts.iter()
+        .filter(|c| is_tested(table, lengths, m, r, **c))
+        .count()
 }
 
 // Whether rule r is tested at cut c: it is a pair rule, and both parts of the pattern fit its halves.
@@ -63,10 +53,7 @@ fn is_tested<'a>(table: &'a [u32], lengths: &'a [usize], m: usize, r: usize, c: 
         return false;
     }
     let cut = c as usize;
-    if cut <= length_at(lengths, rules, x) {
-        return m <= cut + length_at(lengths, rules, y);
-    }
-    false
+    cut <= length_at(lengths, rules, x) && m <= cut + length_at(lengths, rules, y)
 }
 
 // Stores the length of each rule's string, from the first rule up.
@@ -74,11 +61,8 @@ fn measure(table: &[u32], lengths: &mut [usize])
     requires { rule_count table.now ≤ length lengths.old }
     ensures { Measured table.now (rule_count table.now) lengths.new }
 {
-    let mut r = 0;
-    while r < table.len() / 2 {
-        let k = length_of(table, lengths, r);
-        lengths[r] = k;
-        r += 1;
+    for r in 0..table.len() / 2 {
+        lengths[r] = length_of(table, lengths, r);
     }
 }
 
@@ -92,8 +76,7 @@ fn length_of<'a>(table: &'a [u32], lengths: &'a [usize], r: usize) -> usize
     if x / KIND == 0 {
         return 1;
     }
-    let k = length_at(lengths, r, x) + length_at(lengths, r, y);
-    if k < MOST { k } else { MOST }
+    (length_at(lengths, r, x) + length_at(lengths, r, y)).min(MOST)
 }
 
 // The length of the string of the rule whose number word x has, where it is one of the first n; else 0.

@@ -1,61 +1,53 @@
--- Trying words, with f the rank of a sample: while two words agree the rest decides (`smaller_here` to `first_ends`); a test of every number from 1 on, as that a Lyndon
--- word is smaller than each suffix (`none_tried` to `all_greater`); no length above the one reached gives a Lyndon word (`whole_rest`, `found`, `passed`).
-use mathlib.Core.Path.{◌≡◌, refl, sym, ◌∙◌, ap, ap₂}
-use mathlib.Core.Bool.{Bool, true, false, ◌&&◌, ◌||◌}
+-- Trying words, with f the rank of a sample: words compare by their samples' places as they do by ranks (`smaller`); the numbers from 1 on, tried one by one, as that a Lyndon
+-- word is smaller than each suffix (`tried` to `lyndon_is`); no length above the one reached gives a Lyndon word (`whole_rest`, `found`, `passed`).
+use mathlib.Core.Path.{◌≡◌, refl, sym, ◌∙◌, ap, ap₂, subst}
+use mathlib.Core.Bool.{Bool, true, false, cond, ◌&&◌, ◌||◌}
 use mathlib.Core.List.{List, [], ◌∷◌, map}
-use Prim.Native.Nat.{ℕ, zero, suc, ◌+◌, ◌-◌, ◌≤◌, ◌<◌}
+use Prim.Native.Nat.{ℕ, zero, suc, ◌+◌, ◌-◌, ◌%◌, ◌≤◌, ◌<◌}
+use Prim.Native.Nat.compare
 use native.Mathlib.Omega.{arith}
-use native.Mathlib.Numerals.{add-one}
-use lib.ListN.{length, take, drop, get_or, drop_of_length-le, length-drop, length-map}
-use lib.Seq.{drop-cons}
+use lib.ListN.{length, take, drop, length-drop, length-map}
 use lib.Dec.{ltb, eqb}
-use borrow.Author.Tests.{lt-ltb, le-ltb, ltb-true, ltb-false, eq-eqb, ne_eqb}
+use borrow.Author.Tests.{eq-eqb, ne_eqb}
+use Rattle.std.specs.Bool.{MatchBool}
+use Rattle.std.specs.Cmp.Lexicographic.{slice_cmp}
+use Rattle.std.specs.List.{list_all, range_with_len}
+use Rattle.std.specs.Ordering.{nat_cmp, ordering_then, is_lt}
+use Rattle.std.specs.declared.cmp.Ordering.{Ordering}
+use Rattle.std.specs.declared.cmp.Ordering.TheVariants.{Less, Equal, Greater}
 use Rattle.definitions.specs.Words.{every, greatest, lexlt, lyndon, lyndon_length}
-use Rattle.lists.specs.Bools.{contra, not_so, and_right, and_intro, or_right, cond_true, cond_false}
+use Rattle.definitions.specs.Table.{rank_of}
+use Rattle.definitions.specs.Services.{sample_order}
+use Rattle.lists.specs.Bools.{contra, not_so, or_left, or_right, cond_true, cond_false}
 use Rattle.lists.specs.Lists.{tail_taken}
 use Rattle.lists.specs.Members.{take_map, drop_map}
-use Rattle.lists.specs.Numbers.{every_at, every_all, split_le}
+use Rattle.lists.specs.Numbers.{every_at, every_all, split_le, split_lt}
 
 -- ---- one word smaller than another
 
--- what stands from i on in x is smaller than what does in y
-abbrev pub smaller_from : (ℕ → ℕ) → List ℕ → List ℕ → ℕ → Bool
-smaller_from f x y i = lexlt (map f (drop i x)) (map f (drop i y))
+-- a sample's place in the order
+abbrev pub place : ℕ → ℕ
+place b = (b + 128) % 256
 
-module _ (f : ℕ → ℕ) (x y : List ℕ) (i : ℕ) where
-  module _ (hx : i < length x) (hy : i < length y) where
-    heads : smaller_from f x y i ≡ ltb (f (get_or x i 0)) (f (get_or y i 0)) || (eqb (f (get_or x i 0)) (f (get_or y i 0)) && smaller_from f x y (suc i))
-    unfolding lexlt
-    heads = ap₂ {C = Bool} (λ u v. lexlt (map f u) (map f v)) (drop-cons x i 0 hx) (drop-cons y i 0 hy)
+pub smaller : (x y : List ℕ) → is_lt (slice_cmp nat_cmp (map place x) (map place y)) ≡ lexlt (map (rank_of sample_order) x) (map (rank_of sample_order) y)
+unfolding lexlt rank_of
+smaller [] [] = refl
+smaller [] (b ∷ y) = refl
+smaller (a ∷ x) [] = refl
+smaller (a ∷ x) (b ∷ y) =
+    decides (ltb (place a) (place b)) (eqb (place a) (place b)) (slice_cmp nat_cmp (map place x) (map place y))
+    ∙ ap₂ {C = Bool} (λ u v. u || v) (sym (ltb_next (place a) (place b))) (ap₂ {C = Bool} (λ u v. u && v) (sym (eqb_next (place a) (place b))) (smaller x y))
+  where
+    decides : (p q : Bool) (o : Ordering) → is_lt (ordering_then (cond p Less (cond q Equal Greater)) o) ≡ p || (q && is_lt o)
+    decides true q o = refl
+    decides false true o = refl
+    decides false false o = refl
 
-    pub smaller_here : ltb (f (get_or x i 0)) (f (get_or y i 0)) ≡ true → smaller_from f x y i ≡ true
-    smaller_here e = heads ∙ rw e
+    ltb_next : (m n : ℕ) → ltb (suc m) (suc n) ≡ ltb m n
+    ltb_next m n = rw compare.suc-suc
 
-    pub greater_here : ltb (f (get_or y i 0)) (f (get_or x i 0)) ≡ true → smaller_from f x y i ≡ false
-    greater_here e =
-        let l = ltb-true (f (get_or y i 0)) (f (get_or x i 0)) e in
-        heads ∙ rw (le-ltb (f (get_or x i 0)) (f (get_or y i 0)) (omega arith), ne_eqb (f (get_or x i 0)) (f (get_or y i 0)) (λ q. omega arith))
-
-    pub agree : ltb (f (get_or x i 0)) (f (get_or y i 0)) ≡ false → ltb (f (get_or y i 0)) (f (get_or x i 0)) ≡ false → smaller_from f x y i ≡ smaller_from f x y (i + 1)
-    agree d e =
-        let l = ltb-false (f (get_or x i 0)) (f (get_or y i 0)) d in
-        let m = ltb-false (f (get_or y i 0)) (f (get_or x i 0)) e in
-        heads ∙ rw (d, eq-eqb (f (get_or x i 0)) (f (get_or y i 0)) (omega arith), add-one)
-
-  pub second_ends : length y ≤ i → smaller_from f x y i ≡ false
-  unfolding lexlt
-  second_ends h = ap (λ (v : List ℕ). lexlt (map f (drop i x)) (map f v)) (drop_of_length-le y h) ∙ nothing (map f (drop i x))
-    where
-      nothing : (z : List ℕ) → lexlt z [] ≡ false
-      nothing [] = refl
-      nothing (a ∷ z) = refl
-
-  pub first_ends : length x ≤ i → smaller_from f x y i ≡ ltb i (length y)
-  unfolding lexlt
-  first_ends h =
-      split_le (length y) i
-      (λ l. second_ends l ∙ sym (le-ltb i (length y) l))
-      (λ l. ap₂ {C = Bool} (λ u v. lexlt (map f u) (map f v)) (drop_of_length-le x h) (drop-cons y i 0 l) ∙ sym (lt-ltb i (length y) l))
+    eqb_next : (m n : ℕ) → eqb (suc m) (suc n) ≡ eqb m n
+    eqb_next m n = rw compare.suc-suc
 
 -- ---- a test of every number from 1 on
 
@@ -63,33 +55,28 @@ module _ (f : ℕ → ℕ) (x y : List ℕ) (i : ℕ) where
 abbrev pub from_one : (ℕ → Bool) → ℕ → Bool
 from_one f n = every (λ k. eqb k 0 || f k) n
 
-module _ (f : ℕ → Bool) where
-  pub none_tried : from_one f 1 ≡ true
-  unfolding every
-  none_tried = refl
+-- the numbers from a on, tried one by one
+tried : (f : ℕ → Bool) (a n : ℕ) → MatchBool (list_all f (range_with_len a n)) ((k : ℕ) → a ≤ k → k < a + n → f k ≡ true) ((k : ℕ) × (a ≤ k) × (k < a + n) × (f k ≡ false))
+tried f a zero = λ k l m. absurd (omega arith)
+tried f a (suc n) = go (f a) refl (list_all f (range_with_len (a + 1) n)) (tried f (a + 1) n)
+  where
+    go : (b : Bool) → f a ≡ b → (c : Bool) → MatchBool c ((k : ℕ) → a + 1 ≤ k → k < a + 1 + n → f k ≡ true) ((k : ℕ) × (a + 1 ≤ k) × (k < a + 1 + n) × (f k ≡ false))
+        → MatchBool (b && c) ((k : ℕ) → a ≤ k → k < a + suc n → f k ≡ true) ((k : ℕ) × (a ≤ k) × (k < a + suc n) × (f k ≡ false))
+    go true e true h = λ k l m. split_lt a k (λ x. h k (omega arith) (omega arith)) (λ q. subst (λ (j : ℕ). f j ≡ true) q e) (λ x. absurd (omega arith))
+    go true e false (k, l, m, q) = (k, omega arith, omega arith, q)
+    go false e c h = (a, omega arith, omega arith, e)
 
-  pub one_more_tried : (k : ℕ) → from_one f k ≡ true → f k ≡ true → from_one f (k + 1) ≡ true
-  unfolding every
-  one_more_tried k p e = ap (from_one f) (add-one k) ∙ and_intro (from_one f k) (eqb k 0 || f k) p (or_right (eqb k 0) (f k) e)
-
-  -- where it stands behind another test
-  pub one_fails : (a : Bool) (n k : ℕ) → 0 < k → k < n → f k ≡ false → a && from_one f n ≡ false
-  one_fails a n k h b e =
-      let fails : eqb k 0 || f k ≡ false = rw (ne_eqb k 0 (λ q. omega arith)) e in
-      not_so (a && from_one f n) (λ q. contra (every_at (λ j. eqb j 0 || f j) n (and_right a (from_one f n) q) k b) fails)
-
-  pub all_tried : (a : Bool) (n k : ℕ) → n ≤ k → from_one f k ≡ true → a && from_one f n ≡ a
-  all_tried a n k h p = behind a (from_one f n) (every_all (λ j. eqb j 0 || f j) n (λ j b. every_at (λ j. eqb j 0 || f j) k p j (omega arith)))
-    where
-      behind : (a b : Bool) → b ≡ true → a && b ≡ a
-      behind true b e = e
-      behind false b e = refl
+pub all_tried : (f : ℕ → Bool) (n : ℕ) → list_all f (range_with_len 1 (n - 1)) ≡ from_one f n
+all_tried f n = go (list_all f (range_with_len 1 (n - 1))) (tried f 1 (n - 1))
+  where
+    go : (b : Bool) → MatchBool b ((k : ℕ) → 1 ≤ k → k < 1 + (n - 1) → f k ≡ true) ((k : ℕ) × (1 ≤ k) × (k < 1 + (n - 1)) × (f k ≡ false)) → b ≡ from_one f n
+    go true h = sym (every_all (λ k. eqb k 0 || f k) n (λ k l. split_le k 0
+        (λ m. or_left (eqb k 0) (f k) (eq-eqb k 0 (omega arith)))
+        (λ m. or_right (eqb k 0) (f k) (h k (omega arith) (omega arith)))))
+    go false (k, a, l, e) = sym (not_so (from_one f n) (λ q.
+        contra (every_at (λ j. eqb j 0 || f j) n q k (omega arith)) (rw (ne_eqb k 0 (λ z. omega arith)) e)))
 
 -- ---- a Lyndon word
-
--- w is smaller than its suffix from a place on
-abbrev pub smaller_than_suffix : List ℕ → ℕ → Bool
-smaller_than_suffix w = λ k. lexlt w (drop k w)
 
 module _ (f : ℕ → ℕ) (l : List ℕ) where
   -- a suffix, and a stretch, as code takes it
@@ -99,18 +86,15 @@ module _ (f : ℕ → ℕ) (l : List ℕ) where
   pub stretch : (i k : ℕ) → take k (drop i (map f l)) ≡ map f (take k (drop i l))
   stretch i k = ap (take k) (drop_map f i l) ∙ take_map f k (drop i l)
 
-  pub suffix_greater : (k : ℕ) → lexlt (map f l) (map f (take (length l - k) (drop k l))) ≡ true → smaller_than_suffix (map f l) k ≡ true
-  suffix_greater k e = ap (lexlt (map f l)) (suffix k) ∙ e
+  -- l is smaller than its suffix from a place on, as code compares them
+  abbrev pub smaller_suffix : ℕ → Bool
+  smaller_suffix k = lexlt (map f l) (map f (take (length l - k) (drop k l)))
 
-  pub suffix_smaller : (k : ℕ) → 0 < k → k < length l → lexlt (map f l) (map f (take (length l - k) (drop k l))) ≡ false → lyndon (map f l) ≡ false
+  pub lyndon_is : ltb 0 (length l) && list_all smaller_suffix (range_with_len 1 (length l - 1)) ≡ lyndon (map f l)
   unfolding lyndon
-  suffix_smaller k h b e =
-      one_fails (smaller_than_suffix (map f l)) (ltb 0 (length (map f l))) (length (map f l)) k h (omega (arith, length-map l f)) (ap (lexlt (map f l)) (suffix k) ∙ e)
-
-  pub all_greater : (k : ℕ) → length l ≤ k → from_one (smaller_than_suffix (map f l)) k ≡ true → lyndon (map f l) ≡ ltb 0 (length l)
-  unfolding lyndon
-  all_greater k h p =
-      all_tried (smaller_than_suffix (map f l)) (ltb 0 (length (map f l))) (length (map f l)) k (omega (arith, length-map l f)) p ∙ ap (ltb 0) (length-map l f)
+  lyndon_is =
+      ap (λ (b : Bool). ltb 0 (length l) && b) (all_tried smaller_suffix (length l) ∙ (λ i. from_one (λ k. lexlt (map f l) (sym (suffix k) i)) (length l)))
+      ∙ ap (λ (n : ℕ). ltb 0 n && from_one (λ k. lexlt (map f l) (drop k (map f l))) n) (sym (length-map l f))
 
 -- ---- the longest Lyndon word from a place on
 

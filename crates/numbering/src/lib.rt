@@ -37,10 +37,8 @@ fn number_samples(order: Order, n: usize, c: Counts, work: &mut [u32]) -> usize
     ensures { ((b : Begun order n work.old c.rules c.depth) → Rules order (numbered n b.origin) work.new × (result ≡ length (numbered n b.origin))) × Below work.old work.new }
 {
     let mut t = c;
-    let mut i = 1;
-    while i < n {
+    for i in 1..n {
         t = step(work, order, t, i);
-        i += 1;
     }
     t.rules
 }

@@ -1,41 +1,39 @@
 -- Services that begin by opening a table: refused with it (`opening_refused`), or decided by the checks behind, once what is opened is known (`opening_done`) and the
 -- work slice is cleared (`opening_served`; `opening_lent` where its front was lent before).
-use mathlib.Core.Path.{◌≡◌, refl, ◌∙◌, ap, ap₂}
+use mathlib.Core.Path.{◌≡◌, sym, ◌∙◌, ap, ap₂}
 use mathlib.Core.Bool.{true}
 use mathlib.Core.List.{List, ◌∷◌, ◌++◌, map}
 use Prim.Native.Nat.{ℕ}
 use native.Mathlib.Omega.{arith}
 use lib.ListN.{length, take, drop, replicate}
+use Rattle.definitions.specs.declared.Refusal.{Refusal}
 use Rattle.definitions.specs.declared.Order.{Order}
-use Rattle.definitions.specs.declared.Answer.{Answer}
-use Rattle.definitions.specs.declared.Answer.TheVariants.{Done, Refused}
+use Rattle.std.specs.declared.result.Result.TheVariants.{Ok, Err}
 use Rattle.definitions.specs.Words.{placed}
 use Rattle.definitions.specs.Table.{table_of, text_of, chair_of}
-use Rattle.definitions.specs.Services.{Outcome, Check, Lent, work_slice, cleared, table_checks, Serves}
+use Rattle.definitions.specs.Services.{Answer, done, refused, outcome_of, Outcome, Check, Lent, work_slice, cleared, table_checks, Serves}
 use Rattle.lists.specs.Decisions.{Passed, first_before}
 use Rattle.lists.specs.Serving.{by, Refuses, refused_by, passed, Clear, worked}
 use Rattle.lyndon.specs.Stored.{accepted_table}
 use Rattle.layout.specs.Layout.{WORK}
 use Rattle.checks.proofs.Fronts.{work_cleared}
-use Rattle.state.specs.State.{Ready, rules_loaded}
-use Rattle.opening.specs.Opening.{Opened, Admitted, turned_down, opened}
+use Rattle.state.specs.State.{Held}
+use Rattle.opening.specs.Opening.{Opened, rules_opened, Admitted, turned_down, opened}
 
 module _ {o : Order} {t work held : List ℕ} where
-  -- what is opened is ready to be read
-  unfoldable pub ready : Opened o t work held → Ready (take WORK held)
-  ready p = record { order = o; text = text_of o t; chair = chair_of t; loaded = p.loaded }
-
   -- its table is the one that was handed over
   pub opened_table : Opened o t work held → table_of o (text_of o t) (chair_of t) ≡ t
   opened_table p = accepted_table o t p.accepted
 
   -- refused
-  pub opening_refused : {r : Answer} {a b : ℕ} (rest : List Check) {success : Outcome} {others : List Lent} {A : Outcome → Type 0} {olds : List (List ℕ)}
-      → Admitted o t work held r → r ≡ Refused a b → Refuses A r → ((d : Check) → olds ≡ map (λ x. x.if_refused d) others)
+  pub opening_refused : {r : Answer} {f : Refusal} (rest : List Check) {success : Outcome} {others : List Lent} {A : Outcome → Type 0} {olds : List (List ℕ)}
+      → Admitted o t work held r → r ≡ Err f → Refuses A r → ((d : Check) → olds ≡ map (λ x. x.if_refused d) others)
       → Serves (by (table_checks o t (length work) ++ rest) success (work_slice work ∷ others)) A (held ∷ olds)
-  opening_refused rest (turned_down d first e) q refuses same =
-      refused_by d (first_before rest first) (refuses d.number d.place cc) (ap₂ {C = List (List ℕ)} (λ x l. x ∷ l) e (same d))
-  opening_refused {r} {a} {b} rest (opened p x) q refuses same =
+  unfolding outcome_of
+  opening_refused rest (turned_down d first e a) q refuses same =
+      refused_by d (first_before rest first) (refuses d.number d.place a) (ap₂ {C = List (List ℕ)} (λ x l. x ∷ l) e (same d))
+  opening_refused {r} {f} rest (opened p x a) q refuses same =
+      let g : outcome_of (Err f) ≡ done (rules_opened o t) 0 = sym (ap outcome_of q) ∙ a in
       let z : ◌≡◌ {A = ℕ} 0 1 = cc in
       absurd (omega arith)
 
@@ -43,21 +41,21 @@ module _ {o : Order} {t work held : List ℕ} where
 pub record Succeeded (o : Order) (t work held : List ℕ) (n : ℕ) : Type 0 where
   pub passes : Passed (table_checks o t (length work))
   pub loads : Opened o t work held
-  pub rules : n ≡ rules_loaded (ready loads)
+  pub rules : n ≡ rules_opened o t
 
 module _ {o : Order} {t work held : List ℕ} {n : ℕ} where
-  pub opening_done : {r : Answer} → Admitted o t work held r → r ≡ Done n → Succeeded o t work held n
-  unfolding ready
-  opening_done (opened p x) q = record { passes = p; loads = x; rules = cc }
-  opening_done (turned_down d first e) q =
+  pub opening_done : {r : Answer} → Admitted o t work held r → r ≡ Ok n → Succeeded o t work held n
+  unfolding outcome_of
+  opening_done (opened p x a) q = let g : done n 0 ≡ done (rules_opened o t) 0 = sym (ap outcome_of q) ∙ a in record { passes = p; loads = x; rules = cc }
+  opening_done (turned_down d first e a) q =
+      let g : done n 0 ≡ refused d.number d.place = sym (ap outcome_of q) ∙ a in
       let z : ◌≡◌ {A = ℕ} 0 1 = cc in
       absurd (omega arith)
 
   module _ (x : Succeeded o t work held n) where
-    -- ready to be read, in the order that was asked for
-    pub opened_ready : (h : Ready (take WORK held)) × (h.order ≡ o) × (n ≡ rules_loaded h)
-    unfolding ready
-    opened_ready = (ready x.loads, refl, x.rules)
+    -- what is opened is held, in the order that was asked for
+    unfoldable pub opened_held : Held o n (take WORK held)
+    opened_held = record { text = text_of o t; chair = chair_of t; loaded = x.loads.loaded; size = x.rules }
 
     module _ {rest : List Check} {success : Outcome} {others : List Lent} {A : Outcome → Type 0} {olds : List (List ℕ)} (clear : Clear true rest) {after : List ℕ} where
       -- decided by the checks behind, once the work slice is cleared

@@ -8,11 +8,11 @@ use native.Mathlib.Omega.{arith}
 use lib.ListN.{length, take, drop, length-append}
 use lib.Seq.{take_at, drop_at, length-take-le}
 use borrow.Author.Tests.{not-false}
+use Rattle.definitions.specs.declared.Refusal.{Refusal}
 use Rattle.definitions.specs.declared.Order.{Order}
-use Rattle.definitions.specs.declared.Answer.{Answer}
-use Rattle.definitions.specs.declared.Answer.TheVariants.{Done, Refused}
+use Rattle.std.specs.declared.result.Result.TheVariants.{Ok, Err}
 use Rattle.definitions.specs.Table.{text_of, chair_of, is_table, rule_count}
-use Rattle.definitions.specs.Services.{cleared, work_too_short, table_length, has_bad_word, not_a_table, table_checks}
+use Rattle.definitions.specs.Services.{Answer, done, refused, cleared, work_too_short, table_length, has_bad_word, not_a_table, table_checks}
 use Rattle.lists.specs.Bools.{contra}
 use Rattle.lists.specs.Decisions.{met, later, none, more, refused_met, done_met}
 use Rattle.lyndon.specs.Stored.{accepted_table}
@@ -23,14 +23,14 @@ use Rattle.checks.proofs.Fronts.{work_cleared}
 use Rattle.opening.specs.Opening.{Settled, Admitted, turned_down, opened}
 
 module _ (o : Order) (t work y : List ℕ) (r : Answer) (long : WORK ≤ length work) (size : length y ≡ length (take WORK work)) (j : Judged o t y r) where
-  pub settled_refused : {a b : ℕ} (z : List ℕ) → r ≡ Refused a b → z ≡ cleared (y ++ drop WORK work) → Settled o t work z r
+  pub settled_refused : {f : Refusal} (z : List ℕ) → r ≡ Err f → z ≡ cleared (y ++ drop WORK work) → Settled o t work z r
   settled_refused z e f = record {
     answer = j.answer;
     foreign = λ q. work_cleared work y z long size f;
     accepted = λ q. contra (refused_met (not_a_table o t) (rule_count t) j.answer e).0 q;
   }
 
-  pub settled_done : {a : ℕ} → r ≡ Done a → Settled o t work (y ++ drop WORK work) r
+  pub settled_done : {a : ℕ} → r ≡ Ok a → Settled o t work (y ++ drop WORK work) r
   settled_done e =
       let accepted = not-false (is_table o t) (done_met (not_a_table o t) (rule_count t) j.answer e).0 in
       let front : length y ≡ WORK = size ∙ length-take-le WORK work long in
@@ -53,9 +53,9 @@ settled_admitted o t work held r room size words s = go (not_a_table o t).met re
   where
     go : (b : Bool) → (not_a_table o t).met ≡ b → Admitted o t work held r
     go true q =
-        subst (Admitted o t work held) (sym (s.answer ∙ ap (λ (m : Bool). cond m (Refused 7 0) (Done (rule_count t))) q))
-        (turned_down (not_a_table o t) (later (work_too_short (length work)) room (later (table_length (length t)) size (later (has_bad_word t) words (met q)))) (s.foreign q))
+        turned_down (not_a_table o t) (later (work_too_short (length work)) room (later (table_length (length t)) size (later (has_bad_word t) words (met q)))) (s.foreign q)
+        (s.answer ∙ ap (λ (m : Bool). cond m (refused 7 0) (done (rule_count t) 0)) q)
     go false q =
         let x = s.accepted q in
-        subst (Admitted o t work held) (sym (s.answer ∙ ap (λ (m : Bool). cond m (Refused 7 0) (Done (rule_count t))) q ∙ ap (λ (l : List ℕ). Done (rule_count l)) (sym (accepted_table o t x.accepted))))
-        (opened (more (work_too_short (length work)) room (more (table_length (length t)) size (more (has_bad_word t) words (more (not_a_table o t) q none)))) x)
+        opened (more (work_too_short (length work)) room (more (table_length (length t)) size (more (has_bad_word t) words (more (not_a_table o t) q none)))) x
+        (s.answer ∙ ap (λ (m : Bool). cond m (refused 7 0) (done (rule_count t) 0)) q ∙ ap (λ (l : List ℕ). done (rule_count l) 0) (sym (accepted_table o t x.accepted)))

@@ -17,15 +17,15 @@ pub fn admit(order: Order, table: &[u32], work: &mut [u32]) -> Answer
     ensures { Admitted order table.now work.old work.new result }
 {
     let room = work_fits(work.len());
-    let Answer::Done(_) = room else {
+    let Ok(_) = room else {
         return room;
     };
     let size = length_fits(table.len());
-    let Answer::Done(_) = size else {
+    let Ok(_) = size else {
         return size;
     };
     let words = words_fit(table);
-    let Answer::Done(_) = words else {
+    let Ok(_) = words else {
         return words;
     };
     settle(order, table, work)
@@ -37,7 +37,7 @@ fn settle(order: Order, table: &[u32], work: &mut [u32]) -> Answer
     ensures { Settled order table.now work.old work.new result }
 {
     let a = load(order, table, &mut work[0..WORK]);
-    let Answer::Done(_) = a else {
+    let Ok(_) = a else {
         clear_front(work);
         return a;
     };

@@ -30,11 +30,9 @@ fn size_all(work: &mut [u32], rules: usize)
     requires { (g : Contents) × (rules ≡ rules_in g) × Sizing g 0 work.old }
     ensures { (g : Contents) → rules ≡ rules_in g → Sizing g 0 work.old → Sizing g rules work.new }
 {
-    let mut r = 0;
-    while r < rules {
+    for r in 0..rules {
         let n = length_of(work, r);
         put(work, LENGTHS + r, n);
-        r += 1;
     }
 }
 
@@ -43,8 +41,7 @@ fn length_of(work: &[u32], r: usize) -> u32
     requires { (g : Contents) × (r < rules_in g) × Sizing g r work.now }
     ensures { (g : Contents) → r < rules_in g → Sizing g r work.now → result ≡ length (rule_string g.order (table_in g) r) }
 {
-    let rule = rule_in(work, r);
-    match rule {
+    match rule_in(work, r) {
         Rule::Symbol(_, _) => 1,
         Rule::Pair(left, right) => work[LENGTHS + left] + work[LENGTHS + right],
     }
@@ -55,9 +52,7 @@ fn place_all(work: &mut [u32], rules: usize)
     requires { (g : Contents) × (rules ≡ rules_in g) × Placing g rules work.old }
     ensures { (g : Contents) → rules ≡ rules_in g → Placing g rules work.old → Placing g 0 work.new }
 {
-    let mut r = rules;
-    while 0 < r {
-        r -= 1;
+    for r in (0..rules).rev() {
         place_halves(work, r);
     }
 }
@@ -67,8 +62,7 @@ fn place_halves(work: &mut [u32], r: usize)
     requires { (g : Contents) × (r < rules_in g) × Placing g (r + 1) work.old }
     ensures { (g : Contents) → r < rules_in g → Placing g (r + 1) work.old → Placing g r work.new }
 {
-    let rule = rule_in(work, r);
-    let Rule::Pair(left, right) = rule else {
+    let Rule::Pair(left, right) = rule_in(work, r) else {
         return;
     };
     let start = work[PLACES + r];

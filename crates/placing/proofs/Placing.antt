@@ -14,6 +14,7 @@ use Rattle.lists.specs.Parts.{part, part_agree, part_set_behind, lent_length, le
 use Rattle.lyndon.specs.Ranks.{slice_bytes}
 use Rattle.layout.specs.Layout.{TABLE, FOUND, PATTERN, CUTS, NO_CUT, WORK}
 use Rattle.state.specs.State.{Loaded}
+use Rattle.joins.specs.Joining.{Tried}
 use Rattle.rule_finds.specs.Searching.{Pattern, Counting}
 use Rattle.rule_finds.proofs.Standing.{Outside, lent_outside, outside_set, placed_outside}
 use Rattle.rule_finds.proofs.Counting.{tried_cuts}
@@ -38,57 +39,56 @@ module _ (w l z : List ℕ) (o n : ℕ) (low : FOUND ≤ o) (high : o + n ≤ TA
   lent_earlier : take o (take o w ++ (z ++ drop n (drop o w))) ≡ take o w
   lent_earlier = lent_before w z o n (omega arith) size o (omega arith)
 
--- the pattern's ranks are written to v, then its n cuts, and NO_CUT behind them
-pub counting_start : (o : Order) (p text : List ℕ) (chair : ℕ) (w z v y : List ℕ) (m k n : ℕ) → Loaded o text chair w → Pattern p → m ≡ length p
-    → z ≡ placed (map (rank_of o) p) (take m (drop PATTERN w)) → v ≡ take PATTERN w ++ (z ++ drop m (drop PATTERN w))
-    → n ≡ length (pattern_cuts o p) → length (pattern_cuts o p) ≤ k → k ≤ 11 → y ≡ placed (pattern_cuts o p) (take k (drop CUTS v))
-    → Counting o p text chair (length p) n 0 (set (take CUTS v ++ (y ++ drop k (drop CUTS v))) (CUTS + n) NO_CUT)
-counting_start o p text chair w z v y m k n h q e f g c few most d =
-    record {
-      loaded = placed_outside o text chair x z' (outside_set x (CUTS + n) NO_CUT (omega arith) (omega arith)) (placed_outside o text chair v x cuts_outside (placed_outside o text chair w v ranks_outside h));
-      pattern = q;
-      size = refl;
-      ranks = behind ∙ ranks;
-      tried =
-          record {
-            filled = q.filled;
-            short = q.short;
-            few = omega arith;
-            cuts = part_set_behind CUTS n x (CUTS + n) NO_CUT (omega arith) ∙ ap (λ (i : ℕ). part CUTS i x) c ∙ cuts ∙ sym (ap listed_cuts (behind ∙ ranks) ∙ tried_cuts o p);
-            end = get_or-set_same x (CUTS + n) NO_CUT 0 (omega (arith, cuts_outside.size, ranks_outside.size, long));
-          };
-      found = λ r l. absurd (omega arith);
-    }
-  where
-    x : List ℕ
-    x = take CUTS v ++ (y ++ drop k (drop CUTS v))
+-- the pattern's ranks are written to v, then its n cuts to x, and NO_CUT behind them
+module _ (o : Order) (p w z v y : List ℕ) (m k n : ℕ) (long : TABLE ≤ length w) (q : Pattern p) (e : m ≡ length p)
+    (f : z ≡ placed (map (rank_of o) p) (take m (drop PATTERN w))) (g : v ≡ take PATTERN w ++ (z ++ drop m (drop PATTERN w)))
+    (c : n ≡ length (pattern_cuts o p)) (few : length (pattern_cuts o p) ≤ k) (most : k ≤ 11) (d : y ≡ placed (pattern_cuts o p) (take k (drop CUTS v))) where
+  abbrev x : List ℕ
+  x = take CUTS v ++ (y ++ drop k (drop CUTS v))
 
-    z' : List ℕ
-    z' = set x (CUTS + n) NO_CUT
+  abbrev z' : List ℕ
+  z' = set x (CUTS + n) NO_CUT
 
-    behind : part PATTERN (length p) (set (take CUTS v ++ (y ++ drop k (drop CUTS v))) (CUTS + n) NO_CUT) ≡ part PATTERN (length p) (take CUTS v ++ (y ++ drop k (drop CUTS v)))
-    behind = part_set_behind PATTERN (length p) x (CUTS + n) NO_CUT (omega (arith, q.short))
+  behind : part PATTERN (length p) z' ≡ part PATTERN (length p) x
+  behind = part_set_behind PATTERN (length p) x (CUTS + n) NO_CUT (omega (arith, q.short))
 
-    ranks_size : length (map (rank_of o) p) ≡ length p
-    ranks_size = length-map p (rank_of o)
+  ranks_size : length (map (rank_of o) p) ≡ length p
+  ranks_size = length-map p (rank_of o)
 
-    long : TABLE ≤ length w
-    long = omega (arith, h.kept.long)
+  ranks_outside : Outside w v
+  ranks_outside = subst (Outside w) (sym g) (written_outside w (map (rank_of o) p) z PATTERN m (omega arith) (omega (arith, q.short)) long (omega (arith, ranks_size)) f)
 
-    ranks_outside : Outside w v
-    ranks_outside = subst (Outside w) (sym g) (written_outside w (map (rank_of o) p) z PATTERN m (omega arith) (omega (arith, q.short)) long (omega (arith, ranks_size)) f)
+  cuts_outside : Outside v x
+  cuts_outside = written_outside v (pattern_cuts o p) y CUTS k (omega arith) (omega arith) (omega (arith, ranks_outside.size)) few d
 
-    cuts_outside : Outside v (take CUTS v ++ (y ++ drop k (drop CUTS v)))
-    cuts_outside = written_outside v (pattern_cuts o p) y CUTS k (omega arith) (omega arith) (omega (arith, ranks_outside.size)) few d
+  ranks : part PATTERN (length p) x ≡ map (rank_of o) p
+  ranks =
+      part_agree CUTS PATTERN (length p) v x (lent_earlier v (pattern_cuts o p) y CUTS k (omega arith) (omega arith) (omega (arith, ranks_outside.size)) few d) (omega (arith, q.short))
+      ∙ ap₂ {C = List ℕ} (λ i l. part PATTERN i l) (sym ranks_size) g
+      ∙ lent_here w (map (rank_of o) p) z PATTERN m (omega arith) (omega (arith, q.short)) long (omega (arith, ranks_size)) f
 
-    ranks : part PATTERN (length p) (take CUTS v ++ (y ++ drop k (drop CUTS v))) ≡ map (rank_of o) p
-    ranks =
-        part_agree CUTS PATTERN (length p) v x (lent_earlier v (pattern_cuts o p) y CUTS k (omega arith) (omega arith) (omega (arith, ranks_outside.size)) few d) (omega (arith, q.short))
-        ∙ ap₂ {C = List ℕ} (λ i l. part PATTERN i l) (sym ranks_size) g
-        ∙ lent_here w (map (rank_of o) p) z PATTERN m (omega arith) (omega (arith, q.short)) long (omega (arith, ranks_size)) f
+  cuts : part CUTS (length (pattern_cuts o p)) x ≡ pattern_cuts o p
+  cuts = lent_here v (pattern_cuts o p) y CUTS k (omega arith) (omega arith) (omega (arith, ranks_outside.size)) few d
 
-    cuts : part CUTS (length (pattern_cuts o p)) (take CUTS v ++ (y ++ drop k (drop CUTS v))) ≡ pattern_cuts o p
-    cuts = lent_here v (pattern_cuts o p) y CUTS k (omega arith) (omega arith) (omega (arith, ranks_outside.size)) few d
+  pub tried_start : Tried (length p) n z'
+  tried_start = record {
+    filled = q.filled;
+    short = q.short;
+    few = omega arith;
+    cuts = part_set_behind CUTS n x (CUTS + n) NO_CUT (omega arith) ∙ ap (λ (i : ℕ). part CUTS i x) c ∙ cuts ∙ sym (ap listed_cuts (behind ∙ ranks) ∙ tried_cuts o p);
+    end = get_or-set_same x (CUTS + n) NO_CUT 0 (omega (arith, cuts_outside.size, ranks_outside.size, long));
+  }
+
+  -- what is loaded stays
+  pub counting_start : (text : List ℕ) (chair : ℕ) → Loaded o text chair w → Counting o p text chair (length p) n 0 z'
+  counting_start text chair h = record {
+    loaded = placed_outside o text chair x z' (outside_set x (CUTS + n) NO_CUT (omega arith) (omega arith)) (placed_outside o text chair v x cuts_outside (placed_outside o text chair w v ranks_outside h));
+    pattern = q;
+    size = refl;
+    ranks = behind ∙ ranks;
+    tried = tried_start;
+    found = λ r l. absurd (omega arith);
+  }
 
 -- both are written into parts that are lent
 pub cuts_length : (w z v y : List ℕ) (m k : ℕ) → WORK ≤ length w → m ≤ 2047 → length z ≡ length (take m (drop PATTERN w)) → v ≡ take PATTERN w ++ (z ++ drop m (drop PATTERN w))

@@ -27,10 +27,8 @@ pub fn write(order: Order, samples: &[u8], ranks: &mut [u32])
     requires { length samples.now ≤ length ranks.old }
     ensures { ranks.new ≡ placed (map (rank_of order) samples.now) ranks.old }
 {
-    let mut i = 0;
-    while i < samples.len() {
-        ranks[i] = rank_of(order, samples[i]);
-        i += 1;
+    for (i, sample) in samples.iter().enumerate() {
+        ranks[i] = rank_of(order, *sample);
     }
 }
 

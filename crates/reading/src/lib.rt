@@ -11,16 +11,18 @@ use layout::WORK;
 use opening::admit;
 use ranks::SAMPLE_ORDER;
 use results::with_chair;
+use state::LoadedText;
 
 // Reads a table back. Refuses by 4 to 7, 9; success answers the number of samples and the chair number.
 pub fn read(table: &[u32], work: &mut [u32], res: &mut [u8]) -> ReadAnswer
     ensures { Serves (read_service sample_order table.now work.old res.old) (Reads result) (work.new ∷ res.new ∷ []) }
 {
     let a = admit(SAMPLE_ORDER, table, work);
-    let Answer::Done(rules) = a else {
+    let Ok(rules) = a else {
         return with_chair(a, 0);
     };
-    let r = read_loaded(rules, &work[0..WORK], res);
+    let loaded = LoadedText::new(rules, &work[0..WORK]);
+    let r = read_loaded(&loaded, res);
     clear_front(work);
     r
 }
@@ -36,10 +38,11 @@ pub fn extract(
     ensures { Serves (extract_service sample_order table.now start count work.old res.old) (Answers result) (work.new ∷ res.new ∷ []) }
 {
     let a = admit(SAMPLE_ORDER, table, work);
-    let Answer::Done(rules) = a else {
+    let Ok(rules) = a else {
         return a;
     };
-    let b = deliver_part(start, count, rules, &work[0..WORK], res);
+    let loaded = LoadedText::new(rules, &work[0..WORK]);
+    let b = deliver_part(&loaded, start, count, res);
     clear_front(work);
     b
 }

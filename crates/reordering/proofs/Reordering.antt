@@ -11,7 +11,7 @@ use Rattle.definitions.specs.Table.{rank_of, byte_of, marked}
 use Rattle.lists.specs.Parts.{part, lent_length}
 use Rattle.lyndon.specs.Stored.{Stored}
 use Rattle.grammar.specs.Built.{Marked}
-use Rattle.state.specs.State.{Ready}
+use Rattle.state.specs.State.{Held}
 use Rattle.spelling.proofs.Texts.{Piece, loaded_piece}
 
 -- the rank in the order `to` of the sample that has rank r in the order `from`
@@ -37,26 +37,26 @@ turned_ended from to l w n e q =
     all = omega (arith, length-map l (turned from to))
 
 -- n ranks at the front are those of a text that is loaded
-module _ {w : List ℕ} (h : Ready w) (n : ℕ) (e : n ≡ length h.text + 1) where
+module _ {from : Order} {rules : ℕ} {w : List ℕ} (h : Held from rules w) (n : ℕ) (e : n ≡ length h.text + 1) where
   fits : 1 + (n - 1) ≤ length w
   fits = omega (arith, h.loaded.kept.long, h.loaded.kept.stored.short)
 
   -- those behind the mark are its samples
-  pub behind : Piece h.order (take (n - 1) (drop 1 w)) h.text (length h.text)
+  pub behind : Piece from (take (n - 1) (drop 1 w)) h.text (length h.text)
   behind =
       let k : 1 + 0 + length h.text - (1 + 0) ≡ n - 1 = omega arith in
-      subst (λ (i : ℕ). Piece h.order (take i (drop 1 w)) h.text (length h.text)) k
-      (subst (λ (x : List ℕ). Piece h.order (take (1 + 0 + length h.text - (1 + 0)) (drop 1 w)) x (length h.text)) (take-length h.text)
-      (loaded_piece w h 0 (length h.text) (omega arith)))
+      subst (λ (i : ℕ). Piece from (take i (drop 1 w)) h.text (length h.text)) k
+      (subst (λ (x : List ℕ). Piece from (take (1 + 0 + length h.text - (1 + 0)) (drop 1 w)) x (length h.text)) (take-length h.text)
+      (loaded_piece h 0 (length h.text) (omega arith)))
 
   first : take 1 w ≡ 0 ∷ []
   unfolding part marked
   first = sym (take-take 1 (suc (length h.text)) w (omega arith)) ∙ ap (take 1) h.loaded.kept.ranks
 
-  unfoldable pub reordered : (from to : Order) (l : List ℕ) (chair : ℕ) → h.order ≡ from → chair ≡ h.chair → l ≡ map (rank_of to) (map (byte_of from) (take (n - 1) (drop 1 w)))
+  unfoldable pub reordered : (to : Order) (l : List ℕ) (chair : ℕ) → chair ≡ h.chair → l ≡ map (rank_of to) (map (byte_of from) (take (n - 1) (drop 1 w)))
       → Marked to n chair (take 1 w ++ (l ++ drop (n - 1) (drop 1 w)))
   unfolding part marked first fits
-  reordered from to l chair o c q =
+  reordered to l chair c q =
       record {
         text = h.text;
         stored = subst (Stored h.text) (sym c) h.loaded.kept.stored;
@@ -69,7 +69,7 @@ module _ {w : List ℕ} (h : Ready w) (n : ℕ) (e : n ≡ length h.text + 1) wh
       }
     where
       samples : l ≡ map (rank_of to) h.text
-      samples = q ∙ ap (map (rank_of to)) (ap (λ (x : Order). map (byte_of x) (take (n - 1) (drop 1 w))) (sym o) ∙ behind.same)
+      samples = q ∙ ap (map (rank_of to)) behind.same
 
       size : length l ≡ length h.text
       size = ap length samples ∙ length-map h.text (rank_of to)

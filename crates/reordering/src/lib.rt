@@ -7,19 +7,19 @@ ghost use Rattle.definitions.specs.Grammar.{order as order_of};
 ghost use Rattle.definitions.specs.Table.{rank_of, byte_of, marked, table_of};
 ghost use Rattle.definitions.specs.Services.{Serves, Answers, sample_order, writes};
 ghost use Rattle.grammar.specs.Built.{Built};
-ghost use Rattle.state.specs.State.{Ready, rules_loaded};
+ghost use Rattle.state.specs.State.{Held};
 ghost use Rattle.spelling.specs.Spelling.{Ranks};
 
 use definitions::{Answer, Order};
-use delivery::{chair_loaded, deliver_table};
+use delivery::deliver_table;
 use grammar::build_table;
 use ranks::{SAMPLE_ORDER, byte_of, rank_of};
-use spelling::text_length;
+use state::{chair_number, text_length};
 
 // Writes the table of what is loaded in the order `from`, whose table there has so many rules; or refuses by 9.
 pub fn reorder_loaded(from: Order, rules: usize, work: &mut [u32], res: &mut [u32]) -> Answer
-    requires { (h : Ready work.old) × (h.order ≡ from) × (rules ≡ rules_loaded h) }
-    ensures { (h : Ready work.old) → h.order ≡ from → rules ≡ rules_loaded h → Serves (writes [] (table_of sample_order h.text h.chair) 0 res.old) (Answers result) (res.new ∷ []) }
+    requires { Held from rules work.old }
+    ensures { (h : Held from rules work.old) → Serves (writes [] (table_of sample_order h.text h.chair) 0 res.old) (Answers result) (res.new ∷ []) }
 {
     let n = rebuild(from, rules, work);
     deliver_table(n, work, res)
@@ -27,10 +27,10 @@ pub fn reorder_loaded(from: Order, rules: usize, work: &mut [u32], res: &mut [u3
 
 // Builds that table in the table area. Answers its number of rules.
 fn rebuild(from: Order, rules: usize, work: &mut [u32]) -> usize
-    requires { (h : Ready work.old) × (h.order ≡ from) × (rules ≡ rules_loaded h) }
-    ensures { (h : Ready work.old) → h.order ≡ from → rules ≡ rules_loaded h → Built sample_order h.text h.chair work.new × (result ≡ length (order_of (marked sample_order h.text))) }
+    requires { Held from rules work.old }
+    ensures { (h : Held from rules work.old) → Built sample_order h.text h.chair work.new × (result ≡ length (order_of (marked sample_order h.text))) }
 {
-    let chair = chair_loaded(rules, work);
+    let chair = chair_number(rules, work);
     let n = text_length(rules, work) + 1;
     reorder(from, &mut work[1..n]);
     build_table(n, chair, work)
@@ -41,10 +41,7 @@ fn reorder(from: Order, ranks: &mut [u32])
     requires { Ranks ranks.old }
     ensures { ranks.new ≡ map (rank_of sample_order) (map (byte_of from) ranks.old) }
 {
-    let mut i = 0;
-    while i < ranks.len() {
-        let byte = byte_of(from, ranks[i]);
-        ranks[i] = rank_of(SAMPLE_ORDER, byte);
-        i += 1;
+    for rank in ranks.iter_mut() {
+        *rank = rank_of(SAMPLE_ORDER, byte_of(from, *rank));
     }
 }

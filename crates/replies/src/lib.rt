@@ -2,29 +2,32 @@
 #![tactic(auto)]
 
 ghost use Rattle.std.specs.Prelude.{◌≡◌};
-ghost use Rattle.definitions.specs.Services.{done, refused, outcome_of, read_outcome};
+ghost use Rattle.definitions.specs.Services.{done, refused, refusal_number, refusal_place, outcome_of, read_outcome};
 ghost use Rattle.definitions.specs.Replies.{Replies, content_of};
 ghost use Rattle.replies.specs.Searches.{search_reply};
 
-use definitions::{Answer, Content, ReadAnswer, Reply, Search, SearchReply};
+use definitions::{Answer, Content, ReadAnswer, Refusal, Reply, Search, SearchReply};
+use refusals::{number_of, place_of};
 
 // An answer as a struct.
-pub fn replied(a: Answer) -> Reply
-    ensures { Replies result (outcome_of a) }
+#[tactic(auto, unfolding(definitions::specs::Services::outcome_of))]
+pub fn replied(answer: Answer) -> Reply
+    ensures { Replies result (outcome_of answer) }
 {
-    match a {
-        Answer::Done(n) => success(n, 0),
-        Answer::Refused(number, place) => refusal(number, place),
+    match answer {
+        Ok(n) => success(n, 0),
+        Err(r) => refusal(r),
     }
 }
 
 // An answer to reading as a struct.
-pub fn replied_read(a: ReadAnswer) -> Reply
-    ensures { Replies result (read_outcome a) }
+#[tactic(auto, unfolding(definitions::specs::Services::read_outcome))]
+pub fn replied_read(answer: ReadAnswer) -> Reply
+    ensures { Replies result (read_outcome answer) }
 {
-    match a {
-        ReadAnswer::Done(n, chair) => success(n, chair),
-        ReadAnswer::Refused(number, place) => refusal(number, place),
+    match answer {
+        Ok(b) => success(b.samples, b.chair),
+        Err(r) => refusal(r),
     }
 }
 
@@ -32,8 +35,7 @@ pub fn replied_read(a: ReadAnswer) -> Reply
 pub fn replied_search(s: Search) -> SearchReply
     ensures { result ≡ search_reply s }
 {
-    let a = s.answer;
-    let r = replied(a);
+    let r = replied(s.answer);
     SearchReply {
         number: r.number,
         chair: r.chair,
@@ -55,6 +57,7 @@ pub fn content_of(form: u32) -> Content
 }
 
 // The reply of success.
+#[tactic(auto, unfolding(definitions::specs::Replies::reply_of))]
 fn success(count: usize, chair: u16) -> Reply
     ensures { Replies result (done count chair) }
 {
@@ -67,13 +70,14 @@ fn success(count: usize, chair: u16) -> Reply
 }
 
 // The reply of a refusal.
-fn refusal(number: u32, place: usize) -> Reply
-    ensures { Replies result (refused number place) }
+#[tactic(auto, unfolding(definitions::specs::Replies::reply_of))]
+fn refusal(r: Refusal) -> Reply
+    ensures { Replies result (refused (refusal_number r) (refusal_place r)) }
 {
     Reply {
-        number: number,
+        number: number_of(r),
         chair: 0,
-        place: place as u64,
+        place: place_of(r) as u64,
         count: 0,
     }
 }

@@ -36,14 +36,7 @@ pub record Searched (o : Order) (p text : List ℕ) (chair : ℕ) (w : List ℕ)
 
 -- ---- what the functions start from
 
--- a text of so many rules is loaded
-pub record Starts (o : Order) (rules : ℕ) (w : List ℕ) : Type 0 where
-  pub text : List ℕ
-  pub chair : ℕ
-  pub loaded : Loaded o text chair w
-  pub size : rules ≡ rule_count (table_of o text chair)
-
--- the same, and for some pattern of m samples, n of whose cuts are tried, the first r rules are counted
+-- a text of so many rules is loaded, and for some pattern of m samples, n of whose cuts are tried, the first r rules are counted
 pub record Counts (m n rules r : ℕ) (w : List ℕ) : Type 0 where
   pub order : Order
   pub samples : List ℕ

@@ -7,32 +7,32 @@
 
 ghost use Rattle.std.specs.Prelude.{◌≡◌, ◌+◌, ◌*◌, ◌/◌, ◌%◌, ◌≤◌, ◌<◌, length};
 ghost use Rattle.layout.specs.Layout.{PACK, Readable, count_in, join_cut_in};
-ghost use Rattle.joins.specs.Joining.{longest_tail};
+ghost use Rattle.joins.specs.Patterns.{InWork};
 ghost use Rattle.rule_finds.specs.Searching.{CountedBefore, OneTurn, SymbolTurn, FoundFor, tests_for};
 
 use areas::{is_shorter, length_of, place_of};
 use decoding::{Rule, left_in, right_in, rule_in};
-use joins::{Tested, test_join};
+use joins::{Placed, Tested, test_join};
 use layout::{FOUND, PACK, PATTERN};
 
-// What is found in rule r: its occurrences times PACK and the cut at its join; and how many tests are made then, with those before. A string shorter than the pattern
+// What is found in rule r: its occurrences times PACK and the cut at its join; and how many tests are made. A string shorter than the pattern
 // has no occurrence and needs no test; one of two symbols or more is a pair's.
-pub fn found_in(work: &[u32], m: usize, n: usize, longest: usize, r: usize, before: usize) -> Tested
-    requires { CountedBefore m n r work.now × (longest ≡ longest_tail m n work.now) × (before ≤ 65535) }
-    ensures { (h : CountedBefore m n r work.now) → FoundFor h result.found × (result.tests ≡ before + length (tests_for h)) }
+pub fn found_in(work: &[u32], pattern: Placed, r: usize) -> Tested
+    requires { CountedBefore pattern.size pattern.cuts r work.now × InWork pattern work.now }
+    ensures { (h : CountedBefore pattern.size pattern.cuts r work.now) → FoundFor h result.found × (result.tests ≡ length (tests_for h)) }
 {
-    if m < 2 {
-        return untested(found_of_one(work, r), before);
+    if pattern.size < 2 {
+        return untested(found_of_one(work, r));
     }
-    if is_shorter(work, r, m) {
-        return untested(0, before);
+    if is_shorter(work, r, pattern.size) {
+        return untested(0);
     }
     let u = left_in(work, r);
     let v = right_in(work, r);
     let left = length_of(work, u);
     let right = length_of(work, v);
     let at = place_of(work, r);
-    let joined = test_join(work, m, n, longest, at, left, right, before);
+    let joined = test_join(work, pattern, at, left, right);
     Tested {
         found: found(work, u, v, joined.found),
         tests: joined.tests,
@@ -40,13 +40,10 @@ pub fn found_in(work: &[u32], m: usize, n: usize, longest: usize, r: usize, befo
 }
 
 // What is found where nothing is tested.
-fn untested(found: u32, before: usize) -> Tested
-    ensures { (result.found ≡ found) × (result.tests ≡ before) }
+fn untested(found: u32) -> Tested
+    ensures { (result.found ≡ found) × (result.tests ≡ 0) }
 {
-    Tested {
-        found: found,
-        tests: before,
-    }
+    Tested { found, tests: 0 }
 }
 
 // What is found in rule r of a pattern of one sample: it has no cut, and so straddles no join.
@@ -54,11 +51,10 @@ fn found_of_one(work: &[u32], r: usize) -> u32
     requires { OneTurn r work.now }
     ensures { (h : OneTurn r work.now) → FoundFor h.turn result }
 {
-    let rule = rule_in(work, r);
-    let Rule::Pair(u, v) = rule else {
-        return found_in_symbol(work, r);
-    };
-    found(work, u, v, 0)
+    match rule_in(work, r) {
+        Rule::Symbol(_, _) => found_in_symbol(work, r),
+        Rule::Pair(u, v) => found(work, u, v, 0),
+    }
 }
 
 // The same of a symbol rule: its rank stands where the rule does.
@@ -66,11 +62,11 @@ fn found_in_symbol(work: &[u32], r: usize) -> u32
     requires { SymbolTurn r work.now }
     ensures { (h : SymbolTurn r work.now) → FoundFor h.one.turn result }
 {
-    let a = work[place_of(work, r)];
-    if a == work[PATTERN] {
-        return PACK;
+    if work[place_of(work, r)] == work[PATTERN] {
+        PACK
+    } else {
+        0
     }
-    0
 }
 
 // The occurrences in both halves, and what is found at the join. The cuts at the joins of the halves are dropped; their sum is below PACK.

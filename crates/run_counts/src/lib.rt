@@ -47,7 +47,7 @@ fn deliver_listed<'a>(
 {
     let n = listed.len();
     let a = both_fit(q * n, runs.len(), n, counts.len());
-    let Answer::Done(_) = a else {
+    let Ok(_) = a else {
         return a;
     };
     write_runs(listed, q, runs);

@@ -15,7 +15,7 @@ use Rattle.definitions.specs.Table.{rank_of, byte_of}
 use Rattle.definitions.specs.Services.{sample_order}
 use Rattle.definitions.specs.Census.{runs_of, joined}
 use Rattle.lists.specs.Numbers.{below_all}
-use Rattle.lists.specs.Lists.{placed_none, placed_length, placed_more, placed_last, placed_both, Fronted, fronted_none, fronted_as}
+use Rattle.lists.specs.Lists.{placed_none, placed_more, placed_last, placed_both}
 use Rattle.lyndon.specs.Ranks.{slice_bytes, rank_range}
 use Rattle.run_keys.specs.Keys.{digit_of, key_of, run_with, key_more, key_fits, bytes_take}
 
@@ -121,27 +121,24 @@ module _ (q : ℕ) (keys : List ℕ) where
   front_length : (i : ℕ) → i ≤ length keys → length (runs_to q keys i) ≡ q * i
   front_length i h = runs_length q (take i keys) ∙ ap (λ (n : ℕ). q * n) (length-take-le i keys h)
 
-  pub runs_none : (old : List ℕ) → Fronted (runs_to q keys 0) old 0 old
+  pub runs_none : (old : List ℕ) → old ≡ placed (runs_to q keys 0) old
   unfolding joined
-  runs_none old = fronted_none old
+  runs_none old = sym (placed_none old)
 
   -- room for one more
-  pub runs_room : {old w : List ℕ} (i : ℕ) {n : ℕ} → i < length keys → q * length keys ≤ length old → Fronted (runs_to q keys i) old n w → n + q ≤ length old
-  runs_room i h room x = omega (arith, x.count, front_length i (omega arith), mul-suc q i, mul-le-mul_left q h)
+  pub runs_room : (old : List ℕ) (i : ℕ) → i < length keys → q * length keys ≤ length old → q * i + q ≤ length old
+  runs_room old i h room = omega (arith, mul-suc q i, mul-le-mul_left q h)
 
-  pub runs_stored : {old w z : List ℕ} (i : ℕ) {n k : ℕ} → i < length keys → n + q ≤ length old → k ≡ get_or keys i 0 → Fronted (runs_to q keys i) old n w
-      → z ≡ placed (run_with sample_order q k) (take (length w - n) (drop n w))
-      → (length (take n w ++ (z ++ drop (length w - n) (drop n w))) ≡ length old)
-      × Fronted (runs_to q keys (i + 1)) old (n + q) (take n w ++ (z ++ drop (length w - n) (drop n w)))
-  runs_stored {old} {w} {z} i {n} {k} h room e y r =
+  pub runs_stored : (old w z : List ℕ) (i k : ℕ) → i < length keys → q * i + q ≤ length old → k ≡ get_or keys i 0 → w ≡ placed (runs_to q keys i) old
+      → z ≡ placed (run_with sample_order q k) (take (length w - q * i) (drop (q * i) w))
+      → take (q * i) w ++ (z ++ drop (length w - q * i) (drop (q * i) w)) ≡ placed (runs_to q keys (i + 1)) old
+  runs_stored old w z i k h room e y r =
       let u = runs_to q keys i in
       let v = run_with sample_order q k in
-      let size = with_length sample_order q k in
+      let n = front_length i (omega arith) in
       let more : u ++ v ≡ runs_to q keys (i + 1) = ap (λ (x : ℕ). u ++ run_with sample_order q x) e ∙ sym (runs_more q keys i h) in
-      let whole = placed_both u v old w z n y.count (omega (arith, y.count)) y.holds r in (
-        ap length whole ∙ placed_length (u ++ v) old (omega (arith, y.count, length-append u v)),
-        record { count = omega (arith, y.count, length-append u v, ap length more); holds = whole ∙ ap (λ (x : List ℕ). placed x old) more },
-      )
+      placed_both u v old w z (q * i) (sym n) (omega (arith, n, with_length sample_order q k)) y r ∙ ap (λ (x : List ℕ). placed x old) more
 
-  pub runs_all : {old w : List ℕ} (i : ℕ) {n : ℕ} → i ≡ length keys → Fronted (runs_to q keys i) old n w → w ≡ placed (joined (map (run_with sample_order q) keys)) old
-  runs_all i e x = (fronted_as (ap (λ (k : ℕ). runs_to q keys k) e ∙ ap (λ (l : List ℕ). joined (map (run_with sample_order q) l)) (take-length keys)) x).1
+  pub runs_all : (old w : List ℕ) (i : ℕ) → i ≡ length keys → w ≡ placed (runs_to q keys i) old → w ≡ placed (joined (map (run_with sample_order q) keys)) old
+  runs_all old w i e x =
+      x ∙ ap (λ (k : ℕ). placed (runs_to q keys k) old) e ∙ ap (λ (l : List ℕ). placed (joined (map (run_with sample_order q) l)) old) (take-length keys)

@@ -15,13 +15,11 @@ pub fn write_keys(text: &[u8], q: usize, keys: &mut [u64]) -> usize
     ensures value { result ≡ length (runs_of q text.now) }
     ensures keys_after { keys.new ≡ placed (map (key_of sample_order) (runs_of q text.now)) keys.old }
 {
-    let mut i = 0;
-    while i + q <= text.len() {
-        let end = i + q;
-        keys[i] = key_of(&text[i..end]);
-        i += 1;
+    let count = (text.len() + 1).saturating_sub(q);
+    for i in 0..count {
+        keys[i] = key_of(&text[i..i + q]);
     }
-    i
+    count
 }
 
 // The key of a run: its digits to base 256 are the ranks of the samples less 1, the first sample's highest.
@@ -30,10 +28,8 @@ fn key_of(run: &[u8]) -> u64
     ensures { result ≡ key_of sample_order run.now }
 {
     let mut key = 0;
-    let mut i = 0;
-    while i < run.len() {
-        key = key * 256 + (rank_of(SAMPLE_ORDER, run[i]) - 1) as u64;
-        i += 1;
+    for sample in run {
+        key = key * 256 + u64::from(rank_of(SAMPLE_ORDER, *sample) - 1);
     }
     key
 }
@@ -43,12 +39,8 @@ pub fn write_runs(keys: &[u64], q: usize, runs: &mut [u8])
     requires { (q ≤ 8) × (length keys.now ≤ 2047) × (q * length keys.now ≤ length runs.old) }
     ensures { runs.new ≡ placed (joined (map (run_with sample_order q) keys.now)) runs.old }
 {
-    let mut i = 0;
-    let mut n = 0;
-    while i < keys.len() {
-        write_run(keys[i], q, &mut runs[n..]);
-        n += q;
-        i += 1;
+    for (i, key) in keys.iter().enumerate() {
+        write_run(*key, q, &mut runs[q * i..]);
     }
 }
 
@@ -58,10 +50,8 @@ fn write_run(key: u64, q: usize, run: &mut [u8])
     ensures { run.new ≡ placed (run_with sample_order q key) run.old }
 {
     let mut rest = key;
-    let mut i = q;
-    while 0 < i {
-        i -= 1;
+    for i in (0..q).rev() {
         run[i] = byte_of(SAMPLE_ORDER, (rest % 256) as u32 + 1);
-        rest = rest / 256;
+        rest /= 256;
     }
 }

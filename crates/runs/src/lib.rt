@@ -24,7 +24,8 @@ pub struct Run {
     pub next: usize,
 }
 
-// The run that starts at a place, as far as it goes. The first samples of the two tails are compared before the call: most often they differ.
+// The run that starts at a place, as far as it goes. The first samples of the two tails are compared before the call: most often they differ, and each outcome has its own
+// way on, since the compiler joins them otherwise.
 pub fn scan(order: Order, pattern: &[u8], start: usize) -> Run
     requires { (start < length pattern.now) × (length pattern.now ≤ 2047) }
     ensures { (result.start ≡ start) × Scanned (map (rank_of order) pattern.now) start result.back result.end result.next }
@@ -50,14 +51,11 @@ pub fn scan(order: Order, pattern: &[u8], start: usize) -> Run
 }
 
 // Whether a word grows by what stands up to the first difference d of the tail x from its start and the tail y from behind it: y has the greater sample there.
-fn grows<'a>(order: Order, x: &'a [u8], y: &'a [u8], d: usize) -> bool
+fn grows(order: Order, x: &[u8], y: &[u8], d: usize) -> bool
     requires { (d ≤ length y.now) × (length y.now ≤ length x.now) }
     ensures { result ≡ ltb d (length y.now) && ltb (rank_of order (get_or x.now d 0)) (rank_of order (get_or y.now d 0)) }
 {
-    if d == y.len() {
-        return false;
-    }
-    rank_of(order, x[d]) < rank_of(order, y[d])
+    d < y.len() && rank_of(order, x[d]) < rank_of(order, y[d])
 }
 
 // The run of a word of so many samples from `start` on, and `more` samples that repeat it.

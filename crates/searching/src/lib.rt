@@ -17,7 +17,7 @@ pub fn live_cuts(pattern: &[u8], res: &mut [u32]) -> Answer
     ensures { Serves (cuts_service sample_order pattern.now res.old) (Answers result) (res.new ∷ []) }
 {
     let p = pattern_fits(pattern);
-    let Answer::Done(_) = p else {
+    let Ok(_) = p else {
         return p;
     };
     deliver_cuts(pattern, res)
@@ -29,16 +29,16 @@ pub fn count(table: &[u32], content: Content, pattern: &[u8], work: &mut [u32]) 
     ensures { Serves (count_service sample_order table.now content pattern.now work.old) (Searches result) (work.new ∷ []) }
 {
     let p = search_fits(content, pattern);
-    let Answer::Done(_) = p else {
+    let Ok(_) = p else {
         return with_tests(p, 0);
     };
     let a = admit(SAMPLE_ORDER, table, work);
-    let Answer::Done(rules) = a else {
+    let Ok(rules) = a else {
         return with_tests(a, 0);
     };
     let n = count_loaded(content, pattern, rules, &mut work[0..WORK]);
     clear_front(work);
-    with_tests(Answer::Done(n.occurrences), n.tests)
+    with_tests(Ok(n.occurrences), n.tests)
 }
 
 // Lists the finds likewise. Refuses by 9 too.
@@ -52,11 +52,11 @@ pub fn locate(
     ensures { Serves (locate_service sample_order table.now content pattern.now work.old res.old) (Searches result) (work.new ∷ res.new ∷ []) }
 {
     let p = search_fits(content, pattern);
-    let Answer::Done(_) = p else {
+    let Ok(_) = p else {
         return with_tests(p, 0);
     };
     let a = admit(SAMPLE_ORDER, table, work);
-    let Answer::Done(rules) = a else {
+    let Ok(rules) = a else {
         return with_tests(a, 0);
     };
     let b = locate_loaded(content, pattern, rules, &mut work[0..WORK], res);

@@ -16,23 +16,16 @@ pub fn put(s: &mut [u32], at: usize, x: u32)
 pub fn clear(s: &mut [u32])
     ensures { s.new ≡ replicate (length s.old) 0 }
 {
-    let mut i = 0;
-    while i < s.len() {
-        s[i] = 0;
-        i += 1;
-    }
+    s.fill(0);
 }
 
 // Copies all of a slice to the front of another.
-pub fn copy(from: &[u32], to: &mut [u32])
+#[tactic(auto, unfolding(definitions::specs::Words::placed))]
+pub fn copy<T: Copy>(from: &[T], to: &mut [T])
     requires { length from.now ≤ length to.old }
     ensures { to.new ≡ placed from.now to.old }
 {
-    let mut i = 0;
-    while i < from.len() {
-        to[i] = from[i];
-        i += 1;
-    }
+    to[..from.len()].copy_from_slice(from);
 }
 
 // A word as an index.

@@ -4,7 +4,7 @@ use Rattle.definitions.specs.declared.Order.{Order}
 use Rattle.definitions.specs.Words.{placed}
 use Rattle.definitions.specs.Table.{byte_of, marked, table_of, rule_string}
 use Rattle.lyndon.specs.Filling.{Stands}
-use Rattle.state.specs.State.{Ready, rules_loaded}
+use Rattle.state.specs.State.{Held}
 
 -- the samples of a string of ranks
 unfoldable pub samples : Order → List ℕ → List ℕ
@@ -16,24 +16,25 @@ samples o (suc r ∷ s) = byte_of o (suc r) ∷ samples o s
 abbrev pub Ranks : List ℕ → Type 0
 Ranks l = (i : ℕ) → i < length l → (0 < get_or l i 0) × (get_or l i 0 < 257)
 
--- the string of rule r of what is loaded, and its bytes
-abbrev pub string_of : {w : List ℕ} → Ready w → ℕ → List ℕ
-string_of h r = rule_string h.order (table_of h.order h.text h.chair) r
+module _ {o : Order} {rules : ℕ} {w : List ℕ} (h : Held o rules w) where
+  -- the string of rule r of what is loaded, and its bytes
+  abbrev pub string_of : ℕ → List ℕ
+  string_of r = rule_string o (table_of o h.text h.chair) r
 
-unfoldable pub rule_bytes : {w : List ℕ} → Ready w → ℕ → List ℕ
-rule_bytes h r = samples h.order (string_of h r)
+  unfoldable pub rule_bytes : ℕ → List ℕ
+  rule_bytes r = samples o (string_of r)
 
--- r is a rule that begins with the mark: it stands at the front of the marked text
-pub record WithMark {w : List ℕ} (h : Ready w) (r : ℕ) : Type 0 where
-  pub low : r < rules_loaded h
-  pub stands : Stands (marked h.order h.text) (string_of h r) 0
+  -- r is a rule that begins with the mark: it stands at the front of the marked text
+  pub record WithMark (r : ℕ) : Type 0 where
+    pub low : r < rules
+    pub stands : Stands (marked o h.text) (string_of r) 0
 
--- r is a rule without it
-pub record WithoutMark {w : List ℕ} (h : Ready w) (r : ℕ) : Type 0 where
-  pub low : r < rules_loaded h
-  pub ranks : Ranks (string_of h r)
+  -- r is a rule without it
+  pub record WithoutMark (r : ℕ) : Type 0 where
+    pub low : r < rules
+    pub ranks : Ranks (string_of r)
 
--- the n samples of rule r stand at the front of a slice, `old` before and `new` after
-pub record Spelled {w : List ℕ} (h : Ready w) (r n : ℕ) (old new : List ℕ) : Type 0 where
-  pub number : n ≡ length (rule_bytes h r)
-  pub front : new ≡ placed (rule_bytes h r) old
+  -- the n samples of rule r stand at the front of a slice, `old` before and `new` after
+  pub record Spelled (r n : ℕ) (old new : List ℕ) : Type 0 where
+    pub number : n ≡ length (rule_bytes r)
+    pub front : new ≡ placed (rule_bytes r) old

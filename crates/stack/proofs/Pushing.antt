@@ -1,7 +1,7 @@
--- A push in the code's terms: r is what looking the words x and y up among the n rules answers, one more than the rule or 0.
+-- A push in the code's terms: looking the words x and y up among the n rules finds rule r, which is pushed, or none, and then rule n is added and pushed.
 use mathlib.Core.Path.{◌≡◌, refl, sym, ◌∙◌, ap, subst}
 use mathlib.Core.List.{List, [], ◌∷◌}
-use Prim.Native.Nat.{ℕ, ◌+◌, ◌-◌, ◌≤◌, ◌<◌}
+use Prim.Native.Nat.{ℕ, suc, ◌+◌, ◌-◌, ◌≤◌, ◌<◌}
 use native.Mathlib.Omega.{arith}
 use lib.ListN.{length, take, get_or, set, length-append}
 use lib.Seq.{take-set-le}
@@ -15,7 +15,8 @@ use Rattle.lyndon.specs.Rules.{find, intern, intern_old, intern_new}
 use Rattle.lyndon.specs.Encoding.{first_word, second_word}
 use Rattle.lyndon.specs.Closings.{State, push, joins}
 use Rattle.layout.specs.Layout.{STACK, LINKS, TABLE, KIND, RIGHT_HALF}
-use Rattle.dict.specs.Dictionary.{Dict}
+use Rattle.dict.specs.Dictionary.{Dict, IsLatest}
+use Rattle.std.specs.Prelude.{None, Some}
 use Rattle.stack.specs.Areas.{added, Holds, Pushable, Joinable, Below}
 use Rattle.stack.proofs.Adding.{looked_up, added_below}
 use Rattle.stack.proofs.Stacks.{pushed_old, pushed_new, topped, join_once, joins_less, joins_room}
@@ -33,13 +34,7 @@ pushes_most w n d x y p = omega (arith, p.holds.count, intern_longer p.s.rules p
 pub links : (w : List ℕ) (n d x y : ℕ) → Pushable w n d x y → Dict (part TABLE 4608 w) (part LINKS 3328 w) n
 links w n d x y p = subst (Dict (part TABLE 4608 w) (part LINKS 3328 w)) (sym p.holds.count) p.holds.rules.dict
 
-module _ (w : List ℕ) (n d x y r : ℕ) (p : Pushable w n d x y) (e : (m : ℕ) → Dict (part TABLE 4608 w) (part LINKS 3328 w) m → r ≡ latest (has_words (part TABLE 4608 w) x y) m) where
-  one_more : r ≡ latest (has_words (part TABLE 4608 w) x y) n
-  one_more = e n (links w n d x y p)
-
-  pub found_most : r ≤ 2304
-  found_most = omega (arith, one_more, latest_le (has_words (part TABLE 4608 w) x y) n, pushes_most w n d x y p)
-
+module _ (w : List ℕ) (n d x y : ℕ) (p : Pushable w n d x y) where
   at : newest (has_words (part TABLE 4608 w) x y) n ≡ find p.rule p.s.rules
   at =
       words
@@ -49,44 +44,53 @@ module _ (w : List ℕ) (n d x y r : ℕ) (p : Pushable w n d x y) (e : (m : ℕ
       words : newest (has_words (part TABLE 4608 w) x y) n ≡ newest (has_words (part TABLE 4608 w) (first_word p.o p.rule) (second_word 0 p.rule)) n
       words = rw (p.first, p.second)
 
-  old : 0 < r → r - 1 ≡ find p.rule p.s.rules
-  old h = sym (newest_found (has_words (part TABLE 4608 w) x y) n (r - 1) (omega (arith, one_more))) ∙ at
+  -- rule r is found
+  module _ (r : ℕ) (e : (m : ℕ) → Dict (part TABLE 4608 w) (part LINKS 3328 w) m → IsLatest (has_words (part TABLE 4608 w) x y) m (Some r)) where
+    found : latest (has_words (part TABLE 4608 w) x y) n ≡ suc r
+    found = e n (links w n d x y p)
 
-  new : r ≡ 0 → n ≡ find p.rule p.s.rules
-  new h = sym (newest_nothing (has_words (part TABLE 4608 w) x y) n (omega (arith, one_more))) ∙ at
+    pub found_low : r < n
+    found_low = omega (arith, found, latest_le (has_words (part TABLE 4608 w) x y) n)
 
-  -- a rule that is not found has room
-  pub pushes_room : r ≡ 0 → n < 2304
-  pushes_room h =
-      omega (
-        arith,
-        p.room,
-        p.holds.count,
-        ap length (intern_new p.s.rules p.rule (omega (arith, new h, p.holds.count))),
-        length-append p.s.rules (p.rule ∷ []),
-      )
+    old : r ≡ find p.rule p.s.rules
+    old = sym (newest_found (has_words (part TABLE 4608 w) x y) n r found) ∙ at
 
-  pub push_found : (v : List ℕ) → 0 < r → v ≡ set w (STACK + d) (r - 1) → Holds p.o (push p.s.rules p.rule p.s.stack) v n (d + 1)
-  push_found v h q =
-      subst (λ (l : List ℕ). Holds p.o (push p.s.rules p.rule p.s.stack) l n (d + 1)) (sym (q ∙ ap (set w (STACK + d)) (old h)))
-      (pushed_old p.o p.s w n d p.rule p.holds p.low (omega (arith, old h, one_more, latest_le (has_words (part TABLE 4608 w) x y) n)))
+    pub push_found : Holds p.o (push p.s.rules p.rule p.s.stack) (set w (STACK + d) r) n (d + 1)
+    push_found =
+        subst (λ (q : ℕ). Holds p.o (push p.s.rules p.rule p.s.stack) (set w (STACK + d) q) n (d + 1)) (sym old)
+        (pushed_old p.o p.s w n d p.rule p.holds p.low (omega (arith, old, found_low)))
 
-  pub push_added : (u v : List ℕ) → r ≡ 0 → u ≡ added w n x y → v ≡ set u (STACK + d) n
-      → Holds p.o (push p.s.rules p.rule p.s.stack) v (n + 1) (d + 1)
-  push_added u v h f q =
-      subst (λ (l : List ℕ). Holds p.o (push p.s.rules p.rule p.s.stack) l (n + 1) (d + 1)) (sym (q ∙ ap (λ (l : List ℕ). set l (STACK + d) n) (f ∙ words)))
-      (pushed_new p.o p.s w n d p.rule p.holds p.low (omega (arith, new h)) (pushes_room h) p.encodes)
-    where
-      words : added w n x y ≡ added w n (first_word p.o p.rule) (second_word 0 p.rule)
-      words = rw (p.first, p.second)
+  -- no rule is found
+  module _ (e : (m : ℕ) → Dict (part TABLE 4608 w) (part LINKS 3328 w) m → IsLatest (has_words (part TABLE 4608 w) x y) m None) where
+    new : n ≡ find p.rule p.s.rules
+    new = sym (newest_nothing (has_words (part TABLE 4608 w) x y) n (e n (links w n d x y p))) ∙ at
+
+    -- so there is room
+    pub pushes_room : n < 2304
+    pushes_room =
+        omega (
+          arith,
+          p.room,
+          p.holds.count,
+          ap length (intern_new p.s.rules p.rule (omega (arith, new, p.holds.count))),
+          length-append p.s.rules (p.rule ∷ []),
+        )
+
+    pub push_added : (u : List ℕ) → u ≡ added w n x y → Holds p.o (push p.s.rules p.rule p.s.stack) (set u (STACK + d) n) (n + 1) (d + 1)
+    push_added u f =
+        subst (λ (l : List ℕ). Holds p.o (push p.s.rules p.rule p.s.stack) (set l (STACK + d) n) (n + 1) (d + 1)) (sym (f ∙ words))
+        (pushed_new p.o p.s w n d p.rule p.holds p.low (omega (arith, new)) pushes_room p.encodes)
+      where
+        words : added w n x y ≡ added w n (first_word p.o p.rule) (second_word 0 p.rule)
+        words = rw (p.first, p.second)
 
 -- ---- what stays below the stack
 
-pub found_below : (w v : List ℕ) (d r : ℕ) → v ≡ set w (STACK + d) r → Below w v
-found_below w v d r e = ap (take STACK) e ∙ take-set-le STACK w (STACK + d) r (omega arith)
+pub found_below : (w : List ℕ) (d r : ℕ) → Below w (set w (STACK + d) r)
+found_below w d r = take-set-le STACK w (STACK + d) r (omega arith)
 
-pub added_stays : (w u v : List ℕ) (n d x y : ℕ) → u ≡ added w n x y → v ≡ set u (STACK + d) n → Below w v
-added_stays w u v n d x y f e = found_below u v d n e ∙ ap (take STACK) f ∙ added_below w n x y STACK (omega arith)
+pub added_stays : (w u : List ℕ) (n d x y : ℕ) → u ≡ added w n x y → Below w (set u (STACK + d) n)
+added_stays w u n d x y f = found_below u d n ∙ ap (take STACK) f ∙ added_below w n x y STACK (omega arith)
 
 -- ---- a join is a push
 

@@ -1,46 +1,28 @@
 // Standard input, as the programs read it: to its end, or until a slice is full.
 #![tactic(auto)]
 
-ghost use Rattle.std.specs.Prelude.{◌≡◌, ◌≤◌, length, take};
+ghost use Rattle.std.specs.Prelude.{◌≤◌, IfOk, length, take};
 ghost use Rattle.std.specs.Io.KnownBytes.{Consumes};
-ghost use Rattle.standard_input.specs.Reading.{Fits, HasRead, answer_at};
+ghost use Rattle.standard_input.specs.Reading.{HasRead};
 
 use std::io;
 use std::io::Read;
 
-// So many bytes were read, or a read failed.
-#[derive(Clone, Copy)]
-pub enum Input {
-    Read(usize),
-    Failed,
-}
-
-// Reads until the slice is full or the input ends, and answers how many bytes were read. What a read
-// gives is answered as it is: one that a signal interrupts has failed.
-pub fn read_input<R: Read>(reader: &mut R, input: &mut [u8]) -> Input
-    ensures fits { Fits result (length input.old) }
-    ensures bytes { HasRead (R.remaining reader.old) (R.remaining reader.new) result input.new }
+// Reads until the slice is full or the input ends, and answers how many bytes were read. A read that
+// fails is handed on as it is, one that a signal interrupts too.
+pub fn read_input<R: Read>(reader: &mut R, input: &mut [u8]) -> io::Result<usize>
+    ensures fits { IfOk result (λ n. n ≤ length input.old) }
+    ensures bytes { IfOk result (HasRead (R.remaining reader.old) (R.remaining reader.new) input.new) }
 {
     let mut n = 0;
     while n < input.len() {
-        let got = reader.read(&mut input[n..]);
-        let more = got.unwrap_or(0);
+        let more = reader.read(&mut input[n..])?;
         if more == 0 {
-            return ended(got, n);
+            return Ok(n);
         }
         n += more;
     }
-    Input::Read(n)
-}
-
-// What is answered once a read gave no byte, n bytes behind it: the read failed, where it answered an error, or the input ended there.
-fn ended(got: io::Result<usize>, n: usize) -> Input
-    ensures { result ≡ answer_at got n }
-{
-    if let Err(_) = got {
-        return Input::Failed;
-    }
-    Input::Read(n)
+    Ok(n)
 }
 
 // Reads until the slice is full, the input ends or a read fails, and answers how many bytes were read.

@@ -1,1 +1,2 @@
 pub mod Rules
+pub mod Lengths

@@ -21,13 +21,9 @@ pub record Loaded (o : Order) (text : List ℕ) (chair : ℕ) (w : List ℕ) : T
   pub sizes : (r : ℕ) → r < rule_count (table_of o text chair) → length_in w r ≡ length (rule_string o (table_of o text chair) r)
   pub places : (r : ℕ) → r < rule_count (table_of o text chair) → Stands (marked o text) (rule_string o (table_of o text chair) r) (place_in w r)
 
--- some text is loaded
-pub record Ready (w : List ℕ) : Type 0 where
-  pub order : Order
+-- some text is loaded, whose table has so many rules
+pub record Held (o : Order) (rules : ℕ) (w : List ℕ) : Type 0 where
   pub text : List ℕ
   pub chair : ℕ
-  pub loaded : Loaded order text chair w
-
--- how many rules its table has
-abbrev pub rules_loaded : {w : List ℕ} → Ready w → ℕ
-rules_loaded h = rule_count (table_of h.order h.text h.chair)
+  pub loaded : Loaded o text chair w
+  pub size : rules ≡ rule_count (table_of o text chair)

@@ -7,30 +7,22 @@ ghost use Rattle.std.specs.Prelude.{◌≡◌, ◌<◌, ◌≤◌, ◌∷◌, le
 ghost use Rattle.definitions.specs.Words.{placed};
 ghost use Rattle.definitions.specs.Steps.{to_steps, from_steps};
 
-use std::num::{wrapping_add_u8, wrapping_sub_u8};
-
 // Writes the drive rearranged to the front of a slice.
 pub fn rearrange(text: &[u8], steps: &mut [u8])
     requires { length text.now ≤ length steps.old }
     ensures { steps.new ≡ placed (to_steps text.now) steps.old }
 {
-    let mut i = 0;
-    while i < text.len() {
-        let before = sample_before(text, i);
-        steps[i] = wrapping_sub_u8(text[i], before);
-        i += 1;
+    for (i, sample) in text.iter().enumerate() {
+        steps[i] = sample.wrapping_sub(sample_before(text, i));
     }
 }
 
-// The sample before place i.
+// The sample before place i. It is read from the drive and not carried from turn to turn, so that the compiler may take several steps at once.
 fn sample_before(text: &[u8], i: usize) -> u8
     requires { i < length text.now }
     ensures { result ≡ slice_index (0 ∷ text.now) i }
 {
-    if i == 0 {
-        return 0;
-    }
-    text[i - 1]
+    if i == 0 { 0 } else { text[i - 1] }
 }
 
 // Writes the drive restored to the front of a slice.
@@ -38,12 +30,9 @@ pub fn restore(steps: &[u8], text: &mut [u8])
     requires { length steps.now ≤ length text.old }
     ensures { text.new ≡ placed (from_steps steps.now) text.old }
 {
-    let mut last = 0;
-    let mut i = 0;
-    while i < steps.len() {
-        let sample = wrapping_add_u8(last, steps[i]);
+    let mut sample = 0u8;
+    for (i, step) in steps.iter().enumerate() {
+        sample = sample.wrapping_add(*step);
         text[i] = sample;
-        last = sample;
-        i += 1;
     }
 }

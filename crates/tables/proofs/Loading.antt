@@ -8,10 +8,12 @@ use native.Mathlib.Omega.{arith}
 use native.Mathlib.Nat.{zero-add}
 use lib.ListN.{length, take, drop, get_or, length-append, length-take, length-drop}
 use lib.Seq.{get_or-take, take-length, drop_at, length-take-le}
-use Rattle.definitions.specs.declared.Answer.TheVariants.{Done, Refused}
+use Rattle.std.specs.declared.result.Result.TheVariants.{Ok, Err}
 use Rattle.definitions.specs.declared.Order.{Order}
+use Rattle.definitions.specs.declared.Refusal.TheVariants.{NotATable}
 use Rattle.definitions.specs.Words.{placed}
 use Rattle.definitions.specs.Table.{rule_string, spelled, text_of, chair_of, is_table, rule_count}
+use Rattle.definitions.specs.Services.{outcome_of, refusal_number, refusal_place}
 use Rattle.lists.specs.Bools.{contra, not_so}
 use Rattle.lists.specs.Parts.{part, part_at, part_agree, part_front, lent_before, lent_length}
 use Rattle.lyndon.specs.Ranks.{marked_length}
@@ -28,11 +30,13 @@ use Rattle.tables.specs.Loading.{Front, Spelled, Judged}
 
 -- ---- answers
 
-pub refused : (o : Order) (t v : List ℕ) → is_table o t ≡ false → Judged o t v (Refused 7 0)
-refused o t v e = record { answer = rw e; loaded = λ q. contra q e }
+pub refused : (o : Order) (t v : List ℕ) → is_table o t ≡ false → Judged o t v (Err NotATable)
+unfolding outcome_of refusal_number refusal_place
+refused o t v e = record { answer = rw e refl; loaded = λ q. contra q e }
 
-pub accepted : (o : Order) (t v : List ℕ) → is_table o t ≡ true → Loaded o (text_of o t) (chair_of t) v → Judged o t v (Done (rule_count t))
-accepted o t v e l = record { answer = rw e; loaded = λ q. l }
+pub accepted : (o : Order) (t v : List ℕ) → is_table o t ≡ true → Loaded o (text_of o t) (chair_of t) v → Judged o t v (Ok (rule_count t))
+unfolding outcome_of
+accepted o t v e l = record { answer = rw e refl; loaded = λ q. l }
 
 -- ---- all rules are written
 

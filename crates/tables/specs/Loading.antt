@@ -1,11 +1,10 @@
 -- What stands in the work slice while a table is loaded: what the root spells at the front, rule by rule (`Spelled`), which begins with the only mark if the
 -- table is accepted (`Front`); and what loading answers and leaves (`Judged`).
 use Rattle.std.specs.Prelude.{◌≡◌, true, List, ℕ, ◌<◌, get_or}
-use Rattle.definitions.specs.declared.Answer.{Answer}
 use Rattle.definitions.specs.declared.Order.{Order}
 use Rattle.definitions.specs.Words.{every}
 use Rattle.definitions.specs.Table.{text_of, chair_of, is_table, rule_count}
-use Rattle.definitions.specs.Services.{not_a_table}
+use Rattle.definitions.specs.Services.{outcome_of, Answer, not_a_table}
 use Rattle.lists.specs.Decisions.{checked}
 use Rattle.lyndon.specs.Twins.{is_new}
 use Rattle.filling.specs.Filling.{Filling}
@@ -24,5 +23,5 @@ pub record Spelled (t w : List ℕ) : Type 0 where
 
 -- refusal 7, or the number of rules; a table that is accepted is loaded
 pub record Judged (o : Order) (t w : List ℕ) (r : Answer) : Type 0 where
-  pub answer : r ≡ checked (not_a_table o t) (rule_count t)
+  pub answer : outcome_of r ≡ checked (not_a_table o t) (rule_count t)
   pub loaded : is_table o t ≡ true → Loaded o (text_of o t) (chair_of t) w

@@ -10,7 +10,7 @@ ghost use Rattle.layout.specs.Layout.{WORK};
 ghost use Rattle.twins.specs.Twins.{Distinct};
 ghost use Rattle.tables.specs.Loading.{Front, Spelled, Judged};
 
-use definitions::{Answer, Order};
+use definitions::{Answer, Order, Refusal};
 use entries::enter_all;
 use filling::fill_all;
 use layout::{LENGTHS, TABLE, TABLE_END};
@@ -25,7 +25,7 @@ pub fn load(order: Order, table: &[u32], work: &mut [u32]) -> Answer
     ensures { Judged order table.now work.new result }
 {
     if !is_distinct(table, work) {
-        return Answer::Refused(7, 0);
+        return Err(Refusal::NotATable);
     }
     judge(order, table, work)
 }
@@ -36,13 +36,13 @@ fn judge(order: Order, table: &[u32], work: &mut [u32]) -> Answer
     ensures { Judged order table.now work.new result }
 {
     if !measure(table, work) {
-        return Answer::Refused(7, 0);
+        return Err(Refusal::NotATable);
     }
     if !enter_all(table, work) {
-        return Answer::Refused(7, 0);
+        return Err(Refusal::NotATable);
     }
     if !fill_all(order, table, work) {
-        return Answer::Refused(7, 0);
+        return Err(Refusal::NotATable);
     }
     keep(table, work)
 }
@@ -55,10 +55,10 @@ fn keep(table: &[u32], work: &mut [u32]) -> Answer
     let rules = table.len() / 2;
     let n = wide(work[LENGTHS + (rules - 1)]);
     if !is_marked(work, n) {
-        return Answer::Refused(7, 0);
+        return Err(Refusal::NotATable);
     }
     slices::copy(table, &mut work[TABLE..TABLE_END]);
-    Answer::Done(rules)
+    Ok(rules)
 }
 
 // Whether of the n ranks at the front the first alone is the mark. The loop goes to the end, as that of `equality::equal_many` does.
@@ -67,10 +67,8 @@ fn is_marked(work: &[u32], n: usize) -> bool
     ensures { (result ≡ true → Front work.now n) × (result ≡ false → Front work.now n → ⊥) }
 {
     let mut refuted = work[0] != 0;
-    let mut i = 1;
-    while i < n {
-        refuted = refuted | (work[i] == 0);
-        i += 1;
+    for rank in &work[1..n] {
+        refuted |= *rank == 0;
     }
     !refuted
 }

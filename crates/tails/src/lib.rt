@@ -5,13 +5,11 @@ ghost use Rattle.std.specs.Prelude.{◌≡◌, ◌≤◌};
 ghost use Rattle.definitions.specs.Words.{first_difference};
 
 // The first index at which two tails differ, or the shorter one's length where there is none. The samples before `known` are known to agree.
-pub fn first_difference<'a>(x: &'a [u8], y: &'a [u8], known: usize) -> usize
+pub fn first_difference(x: &[u8], y: &[u8], known: usize) -> usize
     requires { known ≤ first_difference x.now y.now }
     ensures { result ≡ first_difference x.now y.now }
 {
-    let m = x.len();
-    let n = y.len();
-    let short = if m < n { m } else { n };
+    let short = x.len().min(y.len());
     let mut i = known;
     loop {
         if i == short {

@@ -5,74 +5,44 @@
 
 ghost use Rattle.std.specs.Prelude.{◌≤◌, length};
 
-use definitions::{Answer, Content};
-use equality::equal;
+use definitions::{Answer, Content, Refusal};
 use naive_profile::{is_profile, lowest_off};
 use naive_words::longest_at;
-use slices::wide;
+use printing::{each_line, print, print_number, told};
+use refusals::{number_of, place_of};
 use standard_input::read_front;
 use std::io::Stdout;
-
-// More than any list has: what `told` answers where the library refuses.
-const NONE: usize = 4294967295;
 
 // Reads at most 4,096 bytes. A write that fails is passed over.
 fn main(rt: HostRuntime) {
     let mut input = [0u8; 4096];
     let n = read_front(&mut rt.stdin(), &mut input);
-    run(rt.stdout(), &input[0..n]);
-}
-
-// Tries every line.
-fn run(to: Stdout, input: &[u8]) {
-    let mut i = 0;
-    while i < input.len() {
-        let e = end_of(input, i, 10);
-        try_line(to, &input[i..e]);
-        i = e + 1;
-    }
-}
-
-// The place of the first byte b from place i on, or the slice's length.
-fn end_of(s: &[u8], i: usize, b: u8) -> usize
-    requires { i ≤ length s.now }
-    ensures { (i ≤ result) × (result ≤ length s.now) }
-{
-    let mut e = i;
-    while e < s.len() {
-        if s[e] == b {
-            return e;
-        }
-        e += 1;
-    }
-    e
+    let to = rt.stdout();
+    each_line(&input[..n], |line| try_line(to, line));
 }
 
 // Tries one line: its drive ends at the first space.
 fn try_line(to: Stdout, line: &[u8]) {
     print(to, line);
-    try_parts(to, line, end_of(line, 0, 32));
+    if let Some(end) = line.iter().position(|byte| *byte == b' ') {
+        try_parts(to, &line[..end], &line[end + 1..]);
+    }
     print(to, b"\n");
 }
 
-// Tries the drive that ends at place e of a line and the motif behind the space there.
-fn try_parts(to: Stdout, line: &[u8], e: usize) {
-    if e < line.len() {
-        let from = e + 1;
-        let drive = &line[0..e];
-        let motif = &line[from..];
-        store(to, Content::Samples, drive, drive, motif);
-        cut(to, motif);
-        follow(to, drive, motif);
-        judge(to, drive);
-    }
+// Tries a drive and a motif.
+fn try_parts<'a>(to: Stdout, drive: &'a [u8], motif: &'a [u8]) {
+    store(to, Content::Samples, drive, drive, motif);
+    cut(to, motif);
+    follow(to, drive, motif);
+    judge(to, drive);
 }
 
 // Rearranges a drive, of at most 63 samples, and stores its steps.
 fn follow<'a>(to: Stdout, drive: &'a [u8], motif: &'a [u8]) {
     let mut steps = [7u8; 63];
     let n = count(to, index::to_steps(drive, &mut steps), 63);
-    store(to, Content::Steps, &steps[0..n], drive, motif);
+    store(to, Content::Steps, &steps[..n], drive, motif);
 }
 
 // Stores the samples of a drive, or its steps, and tries the table.
@@ -80,7 +50,7 @@ fn store<'a>(to: Stdout, content: Content, stored: &'a [u8], drive: &'a [u8], mo
     let mut work = [7u32; 16384];
     let mut table = [7u32; 254];
     let n = count(to, index::build(stored, 0, &mut work, &mut table), 254);
-    try_table(to, content, &table[0..n], drive, motif);
+    try_table(to, content, &table[..n], drive, motif);
 }
 
 // Tries a table of steps or of samples.
@@ -120,8 +90,8 @@ fn search<'a>(
     let mut scanned = [7u32; 64];
     let m = scan(content, drive, motif, &mut scanned);
     let s = index::locate(table, content, motif, &mut work, &mut found);
-    let a = s.answer;
-    print_compared(to, name, told(to, a), &found, m, &scanned);
+    let n = told(to, s.answer);
+    print_compared(to, name, n.and_then(|n| found.get(..n)), scanned.get(..m));
     s.tests
 }
 
@@ -138,27 +108,20 @@ fn scan<'a>(content: Content, drive: &'a [u8], motif: &'a [u8], places: &mut [u3
 
 // Prints how many tests the library counts, and whether the naive side counts as many. A search for an empty motif is refused.
 fn print_tests<'a>(to: Stdout, tests: usize, table: &'a [u32], motif: &'a [u8]) {
-    if motif.len() == 0 {
-        return;
+    if !motif.is_empty() {
+        print_number(to, b" tests ", tests);
+        print_both(to, is_count(tests, table, motif));
     }
-    print_number(to, b" tests ", tests);
-    print_both(to, is_count(tests, table, motif));
 }
 
 // Whether the naive side counts so many tests. A motif of this program has at most 63 samples.
 fn is_count<'a>(tests: usize, table: &'a [u32], motif: &'a [u8]) -> bool {
-    if 63 < motif.len() {
-        return false;
-    }
-    if 256 < table.len() {
+    if 63 < motif.len() || 256 < table.len() {
         return false;
     }
     let mut cuts = [7u32; 64];
     let n = naive_cuts::list(motif, &mut cuts);
-    if n <= 64 {
-        return naive_tests::count(table, &cuts[0..n], motif.len()) == tests;
-    }
-    false
+    n <= 64 && naive_tests::count(table, &cuts[..n], motif.len()) == tests
 }
 
 // Measures the Lyndon array.
@@ -172,12 +135,14 @@ fn measure<'a>(to: Stdout, table: &'a [u32], drive: &'a [u8]) {
 // Prints the Lyndon array, and whether single calls and the naive side have the same lengths.
 fn print_lengths<'a>(
     to: Stdout,
-    n: usize,
+    n: Option<usize>,
     lengths: &'a [u32; 64],
     table: &'a [u32],
     drive: &'a [u8],
 ) {
-    print_list(to, b" lengths", lengths, n);
+    if let Some(listed) = n.and_then(|n| lengths.get(..n)) {
+        print_list(to, b" lengths", listed);
+    }
     if all_agree(to, n, lengths, table, drive) {
         print(to, b" by all");
     }
@@ -186,7 +151,7 @@ fn print_lengths<'a>(
 // Whether there are n lengths, each what a single call answers for its position, and what the naive side says.
 fn all_agree<'a>(
     to: Stdout,
-    n: usize,
+    n: Option<usize>,
     lengths: &'a [u32; 64],
     table: &'a [u32],
     drive: &'a [u8],
@@ -194,14 +159,12 @@ fn all_agree<'a>(
     if 63 < drive.len() {
         return false;
     }
-    let mut i = 0;
-    while i < drive.len() {
-        if !agrees(to, wide(lengths[i]), i, table, drive) {
+    for i in 0..drive.len() {
+        if !agrees(to, lengths[i] as usize, i, table, drive) {
             return false;
         }
-        i += 1;
     }
-    n == i
+    n == Some(drive.len())
 }
 
 // Whether n is what a single call answers for position i, and what the naive side says.
@@ -210,7 +173,7 @@ fn agrees<'a>(to: Stdout, n: usize, i: usize, table: &'a [u32], drive: &'a [u8])
 {
     let mut work = [7u32; 16384];
     let k = told(to, index::lyndon_length(table, i, &mut work));
-    (n == k) & (n == longest_at(drive, i))
+    k == Some(n) && n == longest_at(drive, i)
 }
 
 // Prints the cuts of a motif, and whether the naive side lists the same.
@@ -222,20 +185,15 @@ fn cut(to: Stdout, motif: &[u8]) {
     let mut listed = [7u32; 64];
     let n = told(to, index::live_cuts(motif, &mut cuts));
     let m = naive_cuts::list(motif, &mut listed);
-    print_compared(to, b" cuts", n, &cuts, m, &listed);
+    print_compared(to, b" cuts", n.and_then(|n| cuts.get(..n)), listed.get(..m));
 }
 
-// Prints the list of n entries that the library has, and whether it is that of m entries that the naive side has.
-fn print_compared<'a>(
-    to: Stdout,
-    name: &[u8],
-    n: usize,
-    list: &'a [u32; 64],
-    m: usize,
-    naive: &'a [u32; 64],
-) {
-    print_list(to, name, list, n);
-    print_both(to, (n == m) & equal(list, naive));
+// Prints the list that the library has, and whether the naive side has the same; nothing where the library has none.
+fn print_compared<'a>(to: Stdout, name: &[u8], list: Option<&'a [u32]>, naive: Option<&'a [u32]>) {
+    if let Some(list) = list {
+        print_list(to, name, list);
+        print_both(to, naive == Some(list));
+    }
 }
 
 // Builds a drive in the nine-heading profile.
@@ -258,57 +216,41 @@ fn judge_table<'a>(to: Stdout, table: &'a [u32], drive: &'a [u8]) {
 // Prints what building or checking answers in the profile, and whether the naive side says the same of the drive.
 fn print_judged(to: Stdout, a: Answer, drive: &[u8]) {
     match a {
-        Answer::Refused(number, place) => {
-            print_number(to, b" refused ", wide(number));
-            print_number(to, b" at ", place);
-            print_both(to, is_refusal(number, place, drive));
-        }
-        Answer::Done(_) => {
+        Ok(_) => {
             print(to, b" profile");
             print_both(to, is_profile(drive));
         }
+        Err(refusal) => {
+            print_number(to, b" refused ", number_of(refusal) as usize);
+            print_number(to, b" at ", place_of(refusal));
+            print_both(to, is_refusal(refusal, drive));
+        }
     }
 }
 
-// Whether the naive side refuses the drive by this number, at this place.
-fn is_refusal(number: u32, place: usize, drive: &[u8]) -> bool {
+// Whether the naive side refuses the drive by this refusal, at its place.
+fn is_refusal(refusal: Refusal, drive: &[u8]) -> bool {
     let off = lowest_off(drive);
     if off < drive.len() {
-        return (number == 11) & (place == off);
+        refusal == Refusal::OffHeading(off)
+    } else {
+        refusal == Refusal::NotAtRest && !is_profile(drive)
     }
-    (number == 12) & (place == 0) & !is_profile(drive)
 }
 
-// Prints bytes and the n entries of a list, where it has so many.
-fn print_list(to: Stdout, name: &[u8], list: &[u32; 64], n: usize) {
-    if 64 < n {
-        return;
-    }
+// Prints bytes and the entries of a list.
+fn print_list(to: Stdout, name: &[u8], list: &[u32]) {
     print(to, name);
-    let mut i = 0;
-    while i < n {
-        print_number(to, b" ", wide(list[i]));
-        i += 1;
+    for entry in list {
+        print_number(to, b" ", *entry as usize);
     }
 }
 
-// What success gives, where there is room for so many; else 0.
+// What success gives, at most `room`; 0 where the library refuses.
 fn count(to: Stdout, a: Answer, room: usize) -> usize
     ensures { result ≤ room }
 {
-    let n = told(to, a);
-    if n <= room { n } else { 0 }
-}
-
-// What success gives; where the library refuses, its number is printed.
-fn told(to: Stdout, a: Answer) -> usize {
-    match a {
-        Answer::Refused(number, _) => {
-            print_number(to, b" refused ", wide(number));
-            NONE
-        }
-        Answer::Done(n) => n,
-    }
+    told(to, a).unwrap_or(0).min(room)
 }
 
 // Prints whether the naive side says the same.
@@ -316,15 +258,4 @@ fn print_both(to: Stdout, same: bool) {
     if same {
         print(to, b" by both");
     }
-}
-
-// Prints bytes and a number.
-fn print_number(to: Stdout, name: &[u8], n: usize) {
-    print(to, name);
-    let _ = print!(to; "{n}");
-}
-
-// Prints bytes.
-fn print(to: Stdout, s: &[u8]) {
-    let _ = to.write_all(s);
 }

@@ -11,7 +11,7 @@ use native.Mathlib.Numerals.{add-one}
 use lib.ListN.{length, take, drop, get_or, set, replicate, length-set, length-append, length-drop, length-replicate, get_or-replicate, get_or-append}
 use lib.Seq.{length-take-le}
 use lib.Dec.{eqb}
-use borrow.Author.Tests.{eq-eqb}
+use borrow.Author.Tests.{eq-eqb, ne_eqb}
 use Rattle.definitions.specs.declared.Order.{Order}
 use Rattle.definitions.specs.Words.{every}
 use Rattle.definitions.specs.Table.{word_of, kind_of, rule_count, is_table}
@@ -23,7 +23,8 @@ use Rattle.lyndon.specs.Twins.{is_new, twin_symbol, new_none, new_no_twin}
 use Rattle.lyndon.specs.Lookup.{pair_new, symbol_found, half_new}
 use Rattle.lyndon.specs.Accepted.{accepted_mark, accepted_samples}
 use Rattle.lyndon.specs.Judging.{judged}
-use Rattle.dict.specs.Dictionary.{bucket_of, Dict}
+use Rattle.std.specs.Prelude.{Bool, Option, Some, None, is_none}
+use Rattle.dict.specs.Dictionary.{bucket_of, Dict, IsLatest}
 use Rattle.dict.specs.Links.{linked, dict_none, dict_more}
 use Rattle.lengths.specs.Lengths.{InShape}
 use Rattle.lengths.proofs.Sizes.{rules_few}
@@ -63,12 +64,19 @@ module _ {t w : List ℕ} {r : ℕ} (k : Linked t r w) (h : r < rule_count t) wh
       go (pair u v p) = half_new t k.lent.shaped h p (inr (omega (arith, p.second)))
 
   -- m is what the dictionary finds
-  pub looked_up : (get_or t (2 * r) 0 ≡ 0 → ⊥) → (m : ℕ) → m ≡ latest (has_words t (get_or t (2 * r) 0) (get_or t (2 * r + 1) 0)) r → is_new t r ≡ eqb m 0
-  looked_up n m e = go (ruled t k.lent.shaped r h) ∙ newest_bound (has_words t (get_or t (2 * r) 0) (get_or t (2 * r + 1) 0)) r ∙ ap (λ (i : ℕ). eqb i 0) (sym e)
+  pub looked_up : (get_or t (2 * r) 0 ≡ 0 → ⊥) → (m : Option ℕ) → IsLatest (has_words t (get_or t (2 * r) 0) (get_or t (2 * r + 1) 0)) r m → is_new t r ≡ is_none m
+  looked_up n m e = go (ruled t k.lent.shaped r h) ∙ newest_bound found r ∙ none m e
     where
-      go : Ruled t r → is_new t r ≡ eqb (newest (has_words t (get_or t (2 * r) 0) (get_or t (2 * r + 1) 0)) r) r
+      found : ℕ → Bool
+      found = has_words t (get_or t (2 * r) 0) (get_or t (2 * r + 1) 0)
+
+      go : Ruled t r → is_new t r ≡ eqb (newest found r) r
       go (symbol a b p) = symbol_found t k.lent.shaped k.mark p h n
       go (pair u v p) = pair_new t r p.kind
+
+      none : (m : Option ℕ) → IsLatest found r m → eqb (latest found r) 0 ≡ is_none m
+      none None e = eq-eqb (latest found r) 0 e
+      none (Some q) e = ne_eqb (latest found r) 0 (λ z. omega arith)
 
   pub linked_more : is_new t r ≡ true → (v : List ℕ)
       → v ≡ set (set w (0 + 1024 + r) (get_or w (0 + bucket_of (get_or t (2 * r) 0) (get_or t (2 * r + 1) 0)) 0)) (0 + bucket_of (get_or t (2 * r) 0) (get_or t (2 * r + 1) 0)) (r + 1)

@@ -13,7 +13,6 @@ ghost use Rattle.twins.specs.Twins.{Distinct, Linked};
 
 use dict::{find, link};
 use layout::{LEFT_HALF, RIGHT_HALF};
-use slices::wide;
 
 // Whether the rules are distinct; if not, the table is no drive's.
 pub fn is_distinct(table: &[u32], work: &mut [u32]) -> bool
@@ -32,16 +31,11 @@ fn link_all(table: &[u32], work: &mut [u32]) -> bool
     requires { Linked table.now 0 work.old }
     ensures { (result ≡ true → Distinct table.now work.new) × (result ≡ false → (o : Order) → is_table o table.now ≡ false) }
 {
-    let rules = table.len() / 2;
-    let mut r = 0;
-    while r < rules {
-        let x = table[2 * r];
-        let y = table[2 * r + 1];
+    for r in 0..table.len() / 2 {
         if !is_new(table, work, r) {
             return false;
         }
-        link(work, 0, r, x, y);
-        r += 1;
+        link(work, 0, r, table[2 * r], table[2 * r + 1]);
     }
     true
 }
@@ -52,15 +46,12 @@ fn is_new<'a>(table: &'a [u32], work: &'a [u32], r: usize) -> bool
     ensures { (result ≡ true → is_new table.now r ≡ true) × (result ≡ false → (o : Order) → is_table o table.now ≡ false) }
 {
     let x = table[2 * r];
-    if wide(x) + 1 == wide(LEFT_HALF) + r {
-        return true;
-    }
     let y = table[2 * r + 1];
-    if wide(y) + 1 == wide(RIGHT_HALF) + r {
+    if x as usize + 1 == LEFT_HALF as usize + r || y as usize + 1 == RIGHT_HALF as usize + r {
         return true;
     }
     if x == 0 {
         return r == 0;
     }
-    find(table, work, x, y) == 0
+    find(table, work, x, y).is_none()
 }

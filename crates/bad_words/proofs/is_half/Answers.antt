@@ -1,5 +1,5 @@
 -- `is_half`: what wraps is 2 ^ 32 less `least` or more, and r is no more than that.
-use Rattle.std.proofs.Common.{◌≡◌, ℕ, ◌+◌, ◌-◌, ◌%◌, ◌^◌, ◌<◌, ◌≤◌, ◌&&◌, ltb, leb, arith, rules, le-ltb, le-leb}
+use Rattle.std.proofs.Common.{◌≡◌, ℕ, ◌+◌, ◌-◌, ◌%◌, ◌<◌, ◌≤◌, ◌&&◌, ltb, leb, arith, le-ltb, le-leb}
 use borrow.Author.Tests.{lt-leb}
 use Rattle.lists.specs.Numbers.{split_le}
 use Rattle.bad_words.proofs.is_half.Goals as goal
@@ -13,4 +13,4 @@ wrapped x least r w a b c e =
 pub returns : goal.returns
 returns c =
     let a = c.args in
-    wrapped a.x a.least a.r c.wide.result (omega (arith, c.ranges)) (omega (arith, c.wide.ensures, c.wrapping_sub_u32.type_inv)) c.requires (omega (arith, c.wide.ensures, c.wrapping_sub_u32.ensures.value))
+    wrapped a.x a.least a.r c.wide.result (omega (arith, c.ranges)) (omega (arith, c.wide.ensures)) c.requires (omega (arith, c.wide.ensures, c.ranges))

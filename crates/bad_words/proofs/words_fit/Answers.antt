@@ -1,25 +1,24 @@
 -- `words_fit` reads the rules in order. The invariant: the words passed are good.
-use Rattle.std.proofs.Common.{◌≡◌, ◌+◌, ◌-◌, ◌*◌, ◌≤◌, get_or, refl, arith}
-use Rattle.definitions.specs.Table.{rule_count}
-use Rattle.bad_words.proofs.Words.{Good, bad_most, good_none, bad_refused, good_passed, all_good}
+use Rattle.std.proofs.Common.{◌+◌, ◌*◌, get_or, arith}
+use Rattle.definitions.specs.Services.{outcome_of, refusal_number, refusal_place}
+use Rattle.bad_words.proofs.Words.{bad_most, good_none, bad_refused, good_passed, all_good}
 use Rattle.bad_words.proofs.words_fit.Goals as goal
 
 pub loop-r-init : goal.loop-r-init
-loop-r-init c = (omega arith, refl, good_none c.args.table.now)
+loop-r-init c = good_none c.args.table.now
 
-pub returns-then-bad-ne0 : goal.returns-then-bad-ne0
-returns-then-bad-ne0 c =
-    bad_refused c.loop-r.invariant.2 c.bad_of-bad.result c.bad_of-bad.ensures (omega arith) c.requires.0 c.if-bad-ne0.true
+pub returns-in-Some : goal.returns-in-Some
+unfolding outcome_of refusal_number refusal_place
+returns-in-Some c = bad_refused c.loop-r.invariant c.bad_of.result c.bad_of.ensures c.in-Some.word (omega arith) c.requires.0 c.in-Some.is
 
 pub overflow_add-result : goal.overflow_add-result
 overflow_add-result c =
     let t = c.args.table.now in
-    omega (arith, bad_most c.loop-r.r (get_or t (2 * c.loop-r.r) 0) (get_or t (2 * c.loop-r.r + 1) 0) c.bad_of-bad.result c.bad_of-bad.ensures)
+    omega (arith, bad_most c.loop-r.r (get_or t (2 * c.loop-r.r) 0) (get_or t (2 * c.loop-r.r + 1) 0) c.bad_of.result c.in-Some.word c.bad_of.ensures c.in-Some.is)
 
 pub loop-r-preserved : goal.loop-r-preserved
-loop-r-preserved c =
-    let (low, size, good) = c.loop-r.invariant in
-    (omega arith, size, good_passed good c.bad_of-bad.result c.bad_of-bad.ensures (omega (arith, c.if-bad-ne0.false)))
+loop-r-preserved c = good_passed c.loop-r.invariant c.bad_of.result c.bad_of.ensures c.in_default.is
 
 pub returns : goal.returns
-returns c = all_good c.loop-r.invariant.2 (omega arith) c.requires.0
+unfolding outcome_of
+returns c = all_good c.loop-r.invariant (omega arith) c.requires.0

@@ -2,7 +2,6 @@
 use mathlib.Core.Path.{subst}
 use mathlib.Core.List.{List, [], ◌∷◌}
 use Prim.Native.Nat.{ℕ}
-use borrow.Author.Rules.{rules}
 use Rattle.definitions.specs.Services.{sample_order, writes, Serves, Answers}
 use Rattle.grammar.specs.Built.{rules_most, built_words}
 use Rattle.building.proofs.build_in.Goals as goal

@@ -2,7 +2,6 @@
 use mathlib.Core.Path.{refl}
 use mathlib.Core.List.{[], ◌∷◌}
 use lib.ListN.{length}
-use borrow.Author.Rules.{rules}
 use Rattle.definitions.specs.Services.{text_too_long, profile_checks, drive_checks, build_service, build_profile_service}
 use Rattle.lists.specs.Decisions.{passed_parts, done_all}
 use Rattle.lists.specs.Serving.{answer_refuses, refused_front, passed, passed_over}
@@ -18,5 +17,5 @@ pub returns : goal.returns
 unfolding build_profile_service build_service drive_checks profile_checks
 returns c =
     let text = c.args.text.now in
-    let all = (done_all (drive_checks text) (length text) c.drive_fits-p.ensures c.in-Done.is).0 in
+    let all = (done_all (drive_checks text) (length text) c.drive_fits-p.ensures c.in-Ok.is).0 in
     passed all (passed_over (passed_parts (text_too_long text ∷ []) all).0 c.build.ensures)

@@ -1,13 +1,17 @@
 -- `window_fits` answers its check.
 use native.Mathlib.Omega.{arith}
 use borrow.Author.Tests.{lt-ltb, le-ltb}
+use Rattle.definitions.specs.Services.{outcome_of, refusal_number, refusal_place}
 use Rattle.census.proofs.window_fits.Goals as goal
 
 pub returns-then-q-lt1 : goal.returns-then-q-lt1
+unfolding outcome_of refusal_number refusal_place
 returns-then-q-lt1 c = simp (lt-ltb c.args.q 1 (omega arith))
 
 pub returns-then-q-gt8 : goal.returns-then-q-gt8
+unfolding outcome_of refusal_number refusal_place
 returns-then-q-gt8 c = let q = c.args.q in simp (le-ltb q 1 (omega arith), lt-ltb 8 q (omega arith))
 
 pub returns : goal.returns
+unfolding outcome_of refusal_number refusal_place
 returns c = let q = c.args.q in simp (le-ltb q 1 (omega arith), le-ltb 8 q (omega arith))

@@ -18,15 +18,15 @@ returns-in_default c =
 
 pub slice_bounds-answer_built-end : goal.slice_bounds-answer_built-end
 slice_bounds-answer_built-end c =
-    omega (arith, (drive_done c.args.input.now _ c.build_drive-built.new.table c.build_drive-built.result c.build_drive-built.ensures c.in-Done.is).0)
+    omega (arith, (drive_done c.args.input.now _ c.build_drive-built.new.table c.build_drive-built.result c.build_drive-built.ensures c.in-Ok.is).0)
 
 pub answer_built-requires : goal.answer_built-requires
 answer_built-requires c =
-    ((drive_done c.args.input.now _ c.build_drive-built.new.table c.build_drive-built.result c.build_drive-built.ensures c.in-Done.is).1, c.requires)
+    ((drive_done c.args.input.now _ c.build_drive-built.new.table c.build_drive-built.result c.build_drive-built.ensures c.in-Ok.is).1, c.requires)
 
 pub returns : goal.returns
 returns c =
-    let e = (drive_done c.args.input.now _ c.build_drive-built.new.table c.build_drive-built.result c.build_drive-built.ensures c.in-Done.is).2 in
+    let e = (drive_done c.args.input.now _ c.build_drive-built.new.table c.build_drive-built.result c.build_drive-built.ensures c.in-Ok.is).2 in
     record {
       value = c.answer_built.ensures.value ∙ ap length e;
       out_after = c.answer_built.ensures.out_after ∙ ap (λ (x : List ℕ). placed x c.args.out.now) e;

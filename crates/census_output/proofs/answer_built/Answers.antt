@@ -20,13 +20,13 @@ returns-in_default c =
     }
 
 -- what the census left, and is taken of it
-listed : (w : After-window-q) → Listed w.args.input.now w.count_runs-a.new.runs w.count_runs-a.new.counts w.window-q.result w.in-Done.n
+listed : (w : After-window-q) → Listed w.args.input.now w.count_runs-a.new.runs w.count_runs-a.new.counts w.window-q.result w.in-Ok.n
 listed w =
     let input = w.args.input.now in
-    census_done input _ _ w.count_runs-a.new.runs w.count_runs-a.new.counts w.count_runs-a.result w.count_runs-a.ensures w.in-Done.is (drive_bytes input (λ i h. omega (arith, w.shared_slice_known-1.given i))) w.requires.0.short w.window-q.result w.window-q.ensures
+    census_done input _ _ w.count_runs-a.new.runs w.count_runs-a.new.counts w.count_runs-a.result w.count_runs-a.ensures w.in-Ok.is (drive_bytes input (λ i h. omega (arith, w.shared_slice_known-1.given i))) w.requires.0.short w.window-q.result w.window-q.ensures
 
 pub overflow_mul-end : goal.overflow_mul-end
-overflow_mul-end c = let t = listed (goal.at.overflow_mul-end c).After-window-q in omega (arith, t.small.1, mul-le-mul_right c.in-Done.n t.small.0)
+overflow_mul-end c = let t = listed (goal.at.overflow_mul-end c).After-window-q in omega (arith, t.small.1, mul-le-mul_right c.in-Ok.n t.small.0)
 
 pub slice_bounds-put_report-end : goal.slice_bounds-put_report-end
 slice_bounds-put_report-end c = (listed (goal.at.slice_bounds-put_report-end c).After-window-q).runs_fit

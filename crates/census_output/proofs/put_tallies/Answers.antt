@@ -15,7 +15,7 @@ use Rattle.census_output.proofs.put_tallies.Goals as goal
 pub loop-i-init : goal.loop-i-init
 loop-i-init c =
     let a = c.args in
-    (omega arith, refl, turns_none (tally a.q a.runs.now a.counts.now) a.out.now)
+    turns_none (tally a.q a.runs.now a.counts.now) a.out.now
 
 module _ (t : In-loop-i) where
   -- the run stands within the slice
@@ -28,13 +28,10 @@ module _ (t : In-loop-i) where
   -- there is room for one more
   room : t.loop-i.n + (4 * t.args.q + 5) + 11 ≤ length t.args.out.now
   room =
-      turns_spare (tally t.args.q t.args.runs.now t.args.counts.now) (4 * t.args.q + 5) 11 t.loop-i.i (length t.args.counts.now) small (omega (arith, t.loop-i-test.true)) t.requires.1 t.loop-i.invariant.2
+      turns_spare (tally t.args.q t.args.runs.now t.args.counts.now) (4 * t.args.q + 5) 11 t.loop-i.i (length t.args.counts.now) small (omega (arith, t.loop-i-test.true)) t.requires.1 t.loop-i.invariant
 
 pub overflow_mul-start : goal.overflow_mul-start
 overflow_mul-start c = omega (arith, within (goal.at.overflow_mul-start c).In-loop-i)
-
-pub overflow_add-end : goal.overflow_add-end
-overflow_add-end c = omega (arith, within (goal.at.overflow_add-end c).In-loop-i)
 
 pub slice_bounds-put_tally-end : goal.slice_bounds-put_tally-end
 slice_bounds-put_tally-end c = omega (arith, within (goal.at.slice_bounds-put_tally-end c).In-loop-i)
@@ -63,15 +60,12 @@ overflow_add-n c =
 pub loop-i-preserved : goal.loop-i-preserved
 loop-i-preserved c =
     let a = c.args in
-    let more = turns_stored (tally a.q a.runs.now a.counts.now) c.loop-i.i (line_at (goal.at.loop-i-preserved c).After-wide) (omega (arith, room (goal.at.loop-i-preserved c).In-loop-i, small (goal.at.loop-i-preserved c).In-loop-i c.loop-i.i (omega (arith, c.loop-i-test.true)))) c.loop-i.invariant.2 c.put_tally-n.ensures.value c.put_tally-n.ensures.out_after in
-    (omega arith, more.0, more.1)
+    let more = turns_stored (tally a.q a.runs.now a.counts.now) c.loop-i.i (line_at (goal.at.loop-i-preserved c).After-wide) (omega (arith, room (goal.at.loop-i-preserved c).In-loop-i, small (goal.at.loop-i-preserved c).In-loop-i c.loop-i.i (omega (arith, c.loop-i-test.true)))) c.loop-i.invariant c.put_tally-n.ensures.value c.put_tally-n.ensures.out_after in
+    more.1
 
 pub returns : goal.returns
 unfolding tallies
 returns c =
     let a = c.args in
-    let (first, second) = turns_all (tally a.q a.runs.now a.counts.now) c.loop-i.i (length a.counts.now) (omega arith) refl c.loop-i.invariant.2 in
+    let (first, second) = turns_all (tally a.q a.runs.now a.counts.now) c.loop-i.i (length a.counts.now) (omega arith) refl c.loop-i.invariant in
     record { value = first; out_after = second }
-
-pub shape_of-out : goal.shape_of-out
-shape_of-out c = c.loop-i.invariant.1

@@ -6,9 +6,8 @@ use Prim.Native.Nat.{ℕ, ◌-◌}
 use native.Mathlib.Omega.{arith}
 use lib.ListN.{length, take, drop}
 use lib.Seq.{take-length}
-use borrow.Author.Rules.{rules}
 use Rattle.definitions.specs.Words.{placed}
-use Rattle.definitions.specs.Services.{first_met, profile_checks}
+use Rattle.definitions.specs.Services.{outcome_of, first_met, profile_checks}
 use Rattle.lists.specs.Lists.{placed_front}
 use Rattle.lists.specs.Decisions.{answered}
 use Rattle.checking.proofs.profile_loaded.Goals as goal
@@ -21,19 +20,13 @@ written text old new n e f =
     ap (take (n - 0)) (f ∙ ap (λ (l : List ℕ). placed l old) all) ∙ ap (λ (k : ℕ). take k (placed text old)) size ∙ placed_front text old
 
 pub write_part-requires : goal.write_part-requires
-write_part-requires c =
-    let (h, o, e) = c.requires in
-    (h, o, omega (arith, c.text_length-n.ensures h e), omega (arith, c.text_length-n.ensures h e, h.loaded.kept.stored.short))
+write_part-requires c = (omega (arith, c.len-n.ensures), omega (arith, c.len-n.ensures, c.args.loaded.now.held.loaded.kept.stored.short))
 
 pub slice_bounds-profile_fits-end : goal.slice_bounds-profile_fits-end
-slice_bounds-profile_fits-end c =
-    let (h, o, e) = c.requires in
-    omega (arith, c.text_length-n.ensures h e, h.loaded.kept.stored.short)
+slice_bounds-profile_fits-end c = omega (arith, c.len-n.ensures, c.args.loaded.now.held.loaded.kept.stored.short)
 
 pub returns : goal.returns
 unfolding profile_checks first_met
-returns c h o e =
-    let k = c.text_length-n.result in
-    let size = c.text_length-n.ensures h e in
-    let text = written h.text _ c.write_part.new.res k size (c.write_part.ensures h o (omega (arith, size))) in
-    subst (λ (x : List ℕ). c.profile_fits.result ≡ answered (profile_checks false x) (length x)) text c.profile_fits.ensures
+returns c =
+    let text = written c.args.loaded.now.held.text _ c.write_part.new.res c.len-n.result c.len-n.ensures c.write_part.ensures in
+    subst (λ (x : List ℕ). outcome_of c.profile_fits.result ≡ answered (profile_checks false x) (length x)) text c.profile_fits.ensures

@@ -1,6 +1,5 @@
 -- `clear_front` clears the front of the work slice and leaves the rest.
 use Rattle.checks.proofs.Fronts.{front_cleared}
-use borrow.Author.Rules.{rules}
 use Rattle.checks.proofs.clear_front.Goals as goal
 
 pub returns : goal.returns

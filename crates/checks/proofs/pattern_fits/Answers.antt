@@ -1,6 +1,5 @@
 -- `pattern_fits` is refused by 2, or answers what the check of 3 does.
 use lib.ListN.{length}
-use borrow.Author.Rules.{rules}
 use Rattle.definitions.specs.Services.{first_met, pattern_empty, pattern_checks}
 use Rattle.lists.specs.Decisions.{refused_met, done_met}
 use Rattle.checks.proofs.pattern_fits.Goals as goal
@@ -16,4 +15,4 @@ pub returns : goal.returns
 unfolding first_met pattern_checks
 returns c =
     let p = c.args.pattern.now in
-    rw (done_met (pattern_empty p) (length p) c.samples_fit-a.ensures c.in-Done.is).0 c.size_fits.ensures
+    rw (done_met (pattern_empty p) (length p) c.samples_fit-a.ensures c.in-Ok.is).0 c.size_fits.ensures

@@ -1,5 +1,4 @@
 -- `search_fits` hands on what the checks of the pattern answer, and where the table holds steps what the check of 10 behind them does.
-use borrow.Author.Rules.{rules}
 use Rattle.definitions.specs.Services.{search_checks}
 use Rattle.checks.proofs.Patterns.{search_refused, search_steps}
 use Rattle.checks.proofs.search_fits.Goals as goal
@@ -15,4 +14,4 @@ returns-in_default-content c = rw c.in_default-content.is c.pattern_fits-a.ensur
 
 pub returns : goal.returns
 returns c =
-    rw c.in-Steps.is (search_steps c.args.pattern.now c.pattern_fits-a.ensures c.in-Done.is c.steps_fit.ensures)
+    rw c.in-Steps.is (search_steps c.args.pattern.now c.pattern_fits-a.ensures c.in-Ok.is c.steps_fit.result c.steps_fit.ensures)

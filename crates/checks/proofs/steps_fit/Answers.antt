@@ -2,10 +2,13 @@
 use native.Mathlib.Omega.{arith}
 use lib.ListN.{length}
 use borrow.Author.Tests.{eq-eqb, ne_eqb}
+use Rattle.definitions.specs.Services.{outcome_of, refusal_number, refusal_place}
 use Rattle.checks.proofs.steps_fit.Goals as goal
 
 pub returns-then-pattern-eq1 : goal.returns-then-pattern-eq1
+unfolding outcome_of refusal_number refusal_place
 returns-then-pattern-eq1 c = simp (eq-eqb (length c.args.pattern.now) 1 (omega arith))
 
 pub returns-else-pattern-eq1 : goal.returns-else-pattern-eq1
+unfolding outcome_of refusal_number refusal_place
 returns-else-pattern-eq1 c = simp (ne_eqb (length c.args.pattern.now) 1 (λ e. omega arith))

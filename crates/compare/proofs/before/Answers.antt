@@ -1,6 +1,5 @@
 -- `before` compares two words that stand side by side: their first symbols, and then what follows these.
 use mathlib.Core.Path.{sym}
-use borrow.Author.Rules.{rules}
 use native.Mathlib.Omega.{arith}
 use Rattle.compare.proofs.Compare.{firsts_differ}
 use Rattle.compare.proofs.before.Goals as goal

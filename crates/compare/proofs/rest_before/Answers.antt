@@ -1,6 +1,5 @@
 -- `rest_before` compares what follows the first symbols of two words that stand side by side, unless one of them ends there.
 use mathlib.Core.Path.{sym, ◌∙◌}
-use borrow.Author.Rules.{rules}
 use native.Mathlib.Omega.{arith}
 use Rattle.lists.specs.Parts.{part}
 use Rattle.compare.proofs.Compare.{firsts_agree, left_ends, right_ends}

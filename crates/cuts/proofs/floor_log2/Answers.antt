@@ -3,7 +3,6 @@ use mathlib.Core.Path.{◌≡◌, subst}
 use Prim.Native.Nat.{ℕ, ◌-◌, ◌≤◌, ◌<◌}
 use native.Mathlib.Omega.{arith}
 use lib.Count.{count_leading_zeros, leading_top}
-use borrow.Author.Rules.{rules}
 use Rattle.lyndon.specs.Listed.{Largest}
 use Rattle.cuts.proofs.floor_log2.Goals as goal
 

@@ -1,13 +1,8 @@
 -- `put_digits` stores the digits from the last to the first. The invariant: what is left to write, placed over what is written, is the whole.
 use mathlib.Core.Path.{◌≡◌}
-use Prim.Native.Nat.{◌≤◌}
-use lib.ListN.{length}
 use Rattle.definitions.specs.Words.{placed}
 use Rattle.definitions.specs.Programs.{digits}
 use Rattle.decimals.proofs.put_digits.Given as goal
 
 abbrev pub invariant-loop-i : goal.invariant-loop-i
-invariant-loop-i l = (l.i ≤ length l.initial.out) × (length l.out ≡ length l.initial.out) × (placed (digits l.i l.rest) l.out ≡ placed (digits l.count l.number) l.initial.out)
-
-abbrev pub decreases-loop-i : goal.decreases-loop-i
-decreases-loop-i l = l.i
+invariant-loop-i l = placed (digits l.i l.rest) l.out ≡ placed (digits l.count l.number) l.initial.out

@@ -1,7 +1,6 @@
 -- `chair_of` answers what stands beside the symbol of rule 0, which cannot be a pair.
 use mathlib.Core.Path.{sym, ◌∙◌}
 use native.Mathlib.Omega.{arith}
-use borrow.Author.Rules.{rules}
 use Rattle.lyndon.specs.Encoding.{beside}
 use Rattle.lyndon.specs.Ruled.{SymbolOf}
 use Rattle.decoding.proofs.Rules.{symbol_read, pair_read}

@@ -1,8 +1,8 @@
 -- `right_in` reads the number of a rule's second word.
-use borrow.Author.Rules.{rules}
+use mathlib.Core.Path.{refl}
 use Rattle.decoding.specs.Decoding.{right_in}
 use Rattle.decoding.proofs.right_in.Goals as goal
 
 pub returns : goal.returns
 unfolding right_in
-returns c = c.wide.ensures
+returns c = refl

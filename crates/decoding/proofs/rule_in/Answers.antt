@@ -1,5 +1,4 @@
 -- `rule_in` reads the rule from the table area.
-use borrow.Author.Rules.{rules}
 use Rattle.decoding.specs.Decoding.{rule_in}
 use Rattle.decoding.proofs.rule_in.Goals as goal
 

@@ -1,5 +1,5 @@
 -- `rule_of` tells a symbol from a pair by the first word.
-use borrow.Author.Rules.{rules}
+use mathlib.Core.Path.{refl}
 use Rattle.decoding.proofs.Rules.{read_symbol, read_pair}
 use Rattle.decoding.proofs.rule_of.Goals as goal
 
@@ -7,6 +7,4 @@ pub returns-then-x-lt-KIND : goal.returns-then-x-lt-KIND
 returns-then-x-lt-KIND c = let a = c.args in read_symbol a.words.now a.r c.if-x-lt-KIND.true
 
 pub returns : goal.returns
-returns c =
-    let a = c.args in
-    read_pair a.words.now a.r c.wide.result c.wide-2.result c.if-x-lt-KIND.false c.wide.ensures c.wide-2.ensures
+returns c = let a = c.args in read_pair a.words.now a.r _ _ c.if-x-lt-KIND.false refl refl

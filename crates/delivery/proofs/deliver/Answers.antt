@@ -1,7 +1,6 @@
 -- `deliver` copies where the result slice is long enough, and else refuses.
 use mathlib.Core.Path.{refl}
 use lib.ListN.{length}
-use borrow.Author.Rules.{rules}
 use Rattle.results.proofs.Writing.{list_refused, list_fits, list_written}
 use Rattle.delivery.proofs.deliver.Goals as goal
 
@@ -13,9 +12,9 @@ returns-in_default c =
 pub copy-requires : goal.copy-requires
 copy-requires c =
     let a = c.args in
-    list_fits a.words.now a.res.now (length a.words.now) refl c.result_fits-a.result c.result_fits-a.ensures c.in-Done.is
+    list_fits a.words.now a.res.now (length a.words.now) refl c.result_fits-a.result c.result_fits-a.ensures c.in-Ok.is
 
 pub returns : goal.returns
 returns c =
     let a = c.args in
-    list_written a.words.now a.res.now (length a.words.now) refl c.result_fits-a.result c.result_fits-a.ensures c.copy.new.to c.in-Done.is c.copy.ensures
+    list_written a.words.now a.res.now (length a.words.now) refl c.result_fits-a.result c.result_fits-a.ensures c.copy.new.to c.in-Ok.is c.copy.ensures

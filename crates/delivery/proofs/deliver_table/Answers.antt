@@ -3,7 +3,6 @@ use mathlib.Core.Path.{subst}
 use mathlib.Core.List.{List, [], ◌∷◌}
 use Prim.Native.Nat.{ℕ, ◌+◌, ◌-◌, ◌*◌}
 use native.Mathlib.Omega.{arith}
-use borrow.Author.Rules.{rules}
 use Rattle.definitions.specs.Services.{writes, Serves, Answers}
 use Rattle.lists.specs.Parts.{part_taken}
 use Rattle.layout.specs.Layout.{TABLE}

@@ -7,7 +7,7 @@ use Rattle.desk_output.proofs.name_of.Goals as goal
 
 pub returns-in-0 : goal.returns-in-0
 unfolding heading_name
-returns-in-0 c = (sym (ap heading_name c.in-0.is), omega arith)
+returns-in-0 c = sym (ap heading_name c.in-0.is)
 
 pub returns-in_default : goal.returns-in_default
-returns-in_default c = (sym (no_name c.args.heading (omega arith)), omega arith)
+returns-in_default c = sym (no_name c.args.heading (omega arith))

@@ -1,12 +1,8 @@
 -- `enter` leaves a rule that was met before, and stores the entry and the place of another.
-use mathlib.Core.Path.{sym, ◌∙◌, ap}
-use mathlib.Core.List.{List}
-use Prim.Native.Nat.{ℕ, ◌+◌, ◌≤◌}
+use mathlib.Core.Path.{sym, ◌∙◌}
+use Prim.Native.Nat.{◌≤◌}
 use native.Mathlib.Omega.{arith}
 use native.Mathlib.Numerals.{add-one}
-use lib.ListN.{set}
-use borrow.Author.Rules.{rules}
-use Rattle.layout.specs.Layout.{PLACES}
 use Rattle.lyndon.specs.Meeting.{after_old, after_new}
 use Rattle.entries.proofs.Stores.{entered_old, entered_new}
 use Rattle.entries.proofs.enter.Goals as goal
@@ -19,7 +15,5 @@ returns-then-q-e c =
 pub returns : goal.returns
 returns c =
     let a = c.args in
-    let h : a.e ≤ a.q = omega (arith, c.if-q-e.false) in (
-      add-one a.q ∙ sym (after_new a.e a.q h),
-      c.put-2.ensures ∙ ap (λ (l : List ℕ). set l (PLACES + a.q) a.place) c.put.ensures ∙ sym (entered_new a.work.now a.e a.q a.place h),
-    )
+    let h : a.e ≤ a.q = omega arith in
+    (add-one a.q ∙ sym (after_new a.e a.q h), sym (entered_new a.work.now a.e a.q a.place h))

@@ -1,6 +1,5 @@
 -- `enter_all` enters the root where no rule is met, and then the rules below it.
 use mathlib.Core.Path.{sym, subst}
-use borrow.Author.Rules.{rules}
 use Rattle.definitions.specs.Table.{rule_count}
 use Rattle.entries.specs.Entries.{Entered}
 use Rattle.entries.proofs.Steps.{root_start}

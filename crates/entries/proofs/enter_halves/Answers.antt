@@ -3,7 +3,6 @@ use mathlib.Core.Path.{◌≡◌, sym, ◌∙◌, ap}
 use Prim.Native.Nat.{ℕ, ◌+◌, ◌≤◌, ◌<◌}
 use native.Mathlib.Omega.{arith}
 use lib.Dec.{eqb}
-use borrow.Author.Rules.{rules}
 use Rattle.lyndon.specs.Meeting.{after}
 use Rattle.lyndon.specs.Ruled.{PairOf}
 use Rattle.layout.specs.Layout.{length_in, entry_in, place_in}
@@ -11,26 +10,24 @@ use Rattle.decoding.proofs.Rules.{symbol_read, pair_read}
 use Rattle.lengths.proofs.Sizes.{rules_few}
 use Rattle.entries.specs.Entries.{entered}
 use Rattle.entries.proofs.Steps.{entry_low, symbol_judged, pair_room, after_room, pair_judged}
-use Rattle.entries.proofs.enter_halves.Goals.{After-enter-d, In-Pair}
+use Rattle.entries.proofs.enter_halves.Goals.{In-Pair}
 use Rattle.entries.proofs.enter_halves.Goals as goal
 
-pub rule_of-rule-requires : goal.rule_of-rule-requires
-rule_of-rule-requires c = omega (arith, c.requires.1, c.requires.0.sized.lent.shaped.even)
+pub rule_of-requires : goal.rule_of-requires
+rule_of-requires c = omega (arith, c.requires.1, c.requires.0.sized.lent.shaped.even)
 
 pub bounds-work-r : goal.bounds-work-r
 bounds-work-r c = let few = rules_few c.requires.0.sized.lent in omega (arith, c.requires.1, c.requires.0.sized.lent.long)
 
 pub returns-in-Symbol : goal.returns-in-Symbol
 returns-in-Symbol c =
-    let p = symbol_read c.args.table.now c.args.r c.requires.0.sized.lent.shaped c.requires.1 c.in-Symbol.field-0 c.in-Symbol.field-1 (sym c.rule_of-rule.ensures ∙ c.in-Symbol.is) in
-    let (met-so, met-not) = symbol_judged c.requires.0 c.requires.1 c.in-Symbol.field-0 c.in-Symbol.field-1 p in
-    let same : eqb (entry_in c.args.work.now c.args.r) c.args.r ≡ eqb c.wide-e.result c.args.r = ap (λ (n : ℕ). eqb n c.args.r) (sym c.wide-e.ensures) in
-    (λ t. met-so (same ∙ t), λ t. met-not (same ∙ t))
+    symbol_judged c.requires.0 c.requires.1 c.in-Symbol.field-0 c.in-Symbol.field-1
+    (symbol_read c.args.table.now c.args.r c.requires.0.sized.lent.shaped c.requires.1 c.in-Symbol.field-0 c.in-Symbol.field-1 (sym c.rule_of.ensures ∙ c.in-Symbol.is))
 
 -- the rule is a pair
 is_pair_lem : (c : In-Pair) → PairOf c.args.table.now c.args.r c.in-Pair.left c.in-Pair.right
 is_pair_lem c =
-    pair_read c.args.table.now c.args.r c.requires.0.sized.lent.shaped c.requires.1 c.in-Pair.left c.in-Pair.right (sym c.rule_of-rule.ensures ∙ c.in-Pair.is)
+    pair_read c.args.table.now c.args.r c.requires.0.sized.lent.shaped c.requires.1 c.in-Pair.left c.in-Pair.right (sym c.rule_of.ensures ∙ c.in-Pair.is)
 
 room : (c : In-Pair) → let w = c.args.work.now in
     (c.in-Pair.left < c.args.r) × (c.in-Pair.right < c.args.r) × (c.args.r < 2304) × (place_in w c.args.r + length_in w c.in-Pair.left ≤ 2048)
@@ -42,20 +39,12 @@ bounds-work-left c = omega (arith, room (goal.at.bounds-work-left c).In-Pair, c.
 
 pub enter-d-requires : goal.enter-d-requires
 enter-d-requires c =
-    (omega (arith, room (goal.at.enter-d-requires c).In-Pair), omega (arith, room (goal.at.enter-d-requires c).In-Pair, c.wide-e.ensures, entry_low c.requires.0 c.requires.1), c.requires.0.sized.lent.long)
-
--- what is met once the left half is
-met : (c : After-enter-d) → let e = entry_in c.args.work.now c.args.r in
-    (c.enter-d.result ≡ after e c.in-Pair.left) × (c.enter-d.new.work ≡ entered c.args.work.now e c.in-Pair.left (place_in c.args.work.now c.args.r))
-met c =
-    let u = c.in-Pair.left in
-    let place = place_in c.args.work.now c.args.r in
-    (c.enter-d.ensures.0 ∙ ap (λ (n : ℕ). after n u) c.wide-e.ensures, c.enter-d.ensures.1 ∙ ap (λ (n : ℕ). entered c.args.work.now n u place) c.wide-e.ensures)
+    (omega (arith, room (goal.at.enter-d-requires c).In-Pair), omega (arith, room (goal.at.enter-d-requires c).In-Pair, entry_low c.requires.0 c.requires.1), c.requires.0.sized.lent.long)
 
 pub enter-requires : goal.enter-requires
 enter-requires c =
     let low = after_room c.requires.0 c.requires.1 c.in-Pair.left c.in-Pair.right (is_pair_lem (goal.at.enter-requires c).In-Pair) in
-    (omega (arith, room (goal.at.enter-requires c).In-Pair), omega (arith, room (goal.at.enter-requires c).In-Pair, (met (goal.at.enter-requires c).After-enter-d).0, low.0), omega (arith, c.enter-d.auto.work, c.requires.0.sized.lent.long))
+    (omega (arith, room (goal.at.enter-requires c).In-Pair), omega (arith, room (goal.at.enter-requires c).In-Pair, c.enter-d.ensures.0, low.0), omega (arith, c.enter-d.auto.work, c.requires.0.sized.lent.long))
 
 pub returns-in-Pair : goal.returns-in-Pair
 returns-in-Pair c =
@@ -64,12 +53,13 @@ returns-in-Pair c =
     let v = c.in-Pair.right in
     let d = after (entry_in w c.args.r) u in
     let behind = place_in w c.args.r + length_in w u in
-    let (met-so, met-not) = pair_judged c.requires.0 c.requires.1 u v (is_pair_lem (goal.at.returns-in-Pair c).In-Pair) c.enter-d.new.work c.enter.new.work (met (goal.at.returns-in-Pair c).After-enter-d).1 (c.enter.ensures.1 ∙ ap (λ (n : ℕ). entered c.enter-d.new.work n v behind) (met (goal.at.returns-in-Pair c).After-enter-d).0) in
-    let same : eqb (after d v) c.args.r ≡ eqb c.enter.result c.args.r = ap (λ (n : ℕ). eqb n c.args.r) (sym (c.enter.ensures.0 ∙ ap (λ (n : ℕ). after n v) (met (goal.at.returns-in-Pair c).After-enter-d).0)) in
+    let (met-so, met-not) = pair_judged c.requires.0 c.requires.1 u v (is_pair_lem (goal.at.returns-in-Pair c).In-Pair) c.enter-d.new.work c.enter.new.work c.enter-d.ensures.1
+    (c.enter.ensures.1 ∙ ap (λ (n : ℕ). entered c.enter-d.new.work n v behind) c.enter-d.ensures.0) in
+    let same : eqb (after d v) c.args.r ≡ eqb c.enter.result c.args.r = ap (λ (n : ℕ). eqb n c.args.r) (sym (c.enter.ensures.0 ∙ ap (λ (n : ℕ). after n v) c.enter-d.ensures.0)) in
     (λ t. met-so (same ∙ t), λ t. met-not (same ∙ t))
 
-pub overflow_add-r : goal.overflow_add-r
-overflow_add-r c = let few = rules_few c.requires.0.sized.lent in omega (arith, c.requires.1)
+pub overflow_add-e : goal.overflow_add-e
+overflow_add-e c = let few = rules_few c.requires.0.sized.lent in omega (arith, c.requires.1)
 
 pub offset_bounds-work-r : goal.offset_bounds-work-r
 offset_bounds-work-r c = let few = rules_few c.requires.0.sized.lent in omega (arith, c.requires.1)

@@ -1,5 +1,5 @@
 -- `equal_front` decides sameness of two fronts. The loop's invariant: the words passed agree, so the rest decides.
-use mathlib.Core.Path.{◌≡◌, sym, ◌∙◌, refl}
+use mathlib.Core.Path.{◌≡◌, sym, ◌∙◌}
 use mathlib.Core.List.{List}
 use Prim.Native.Nat.{ℕ, ◌<◌}
 use native.Mathlib.Omega.{arith}
@@ -19,34 +19,20 @@ pub returns-then-x-i : goal.returns-then-x-i
 returns-then-x-i c =
     let a = c.args in
     let i = c.loop-i.i in
-    sym (c.loop-i.invariant.1
-    ∙ differ (take a.n a.x.now) (take a.n a.y.now) i
-    (omega (arith, length-take-le a.n a.x.now c.requires.0, c.loop-i-test.true)) (omega (arith, length-take-le a.n a.y.now c.requires.1, c.loop-i-test.true))
+    sym (c.loop-i.invariant
+    ∙ differ (take a.n a.x.now) (take a.n a.y.now) i (omega (arith, length-take-le a.n a.x.now c.requires.0)) (omega (arith, length-take-le a.n a.y.now c.requires.1))
     (λ e. c.if-x-i.true (there a.n i a.x.now a.y.now c.loop-i-test.true e)))
 
 pub loop-i-preserved : goal.loop-i-preserved
 loop-i-preserved c =
     let a = c.args in
-    let i = c.loop-i.i in (
-      omega (arith, c.loop-i-test.true),
-      c.loop-i.invariant.1
-          ∙ agree (take a.n a.x.now) (take a.n a.y.now) i
-          (omega (arith, length-take-le a.n a.x.now c.requires.0, c.loop-i-test.true)) (omega (arith, length-take-le a.n a.y.now c.requires.1, c.loop-i-test.true))
-          (here a.n i a.x.now a.y.now c.loop-i-test.true c.if-x-i.false),
-    )
+    let i = c.loop-i.i in
+    c.loop-i.invariant
+    ∙ agree (take a.n a.x.now) (take a.n a.y.now) i (omega (arith, length-take-le a.n a.x.now c.requires.0)) (omega (arith, length-take-le a.n a.y.now c.requires.1))
+    (here a.n i a.x.now a.y.now c.loop-i-test.true c.if-x-i.false)
 
 pub returns : goal.returns
 returns c =
     let a = c.args in
-    sym (c.loop-i.invariant.1
-    ∙ ended (take a.n a.x.now) (take a.n a.y.now) c.loop-i.i
-    (omega (arith, length-take-le a.n a.x.now c.requires.0, c.loop-i.invariant.0, c.loop-i-test.false)) (omega (arith, length-take-le a.n a.y.now c.requires.1, c.loop-i.invariant.0, c.loop-i-test.false)))
-
-pub loop-i-init : goal.loop-i-init
-loop-i-init c = (omega arith, refl)
-
-pub bounds-x-i : goal.bounds-x-i
-bounds-x-i c = omega (arith, c.requires)
-
-pub bounds-y-i : goal.bounds-y-i
-bounds-y-i c = omega (arith, c.requires)
+    sym (c.loop-i.invariant
+    ∙ ended (take a.n a.x.now) (take a.n a.y.now) c.loop-i.i (omega (arith, length-take-le a.n a.x.now c.requires.0)) (omega (arith, length-take-le a.n a.y.now c.requires.1)))

@@ -1,12 +1,11 @@
 -- `count_loaded` counts, from what is loaded, in its order, by what the table holds.
 use mathlib.Core.Path.{refl, sym, subst}
 use native.Mathlib.Omega.{arith}
-use borrow.Author.Rules.{rules}
 use Rattle.definitions.specs.declared.Content.{Content}
 use Rattle.definitions.specs.declared.Content.TheVariants.{Samples}
 use Rattle.definitions.specs.Steps.{searched}
 use Rattle.finding.specs.Counted.{Sought, Counted}
-use Rattle.finding.proofs.Counting.{loaded_starts, loaded_count}
+use Rattle.finding.proofs.Counting.{loaded_count}
 use Rattle.finding.proofs.count_loaded.Goals as goal
 
 -- for samples, what is searched for is the pattern
@@ -15,7 +14,7 @@ unfolding searched
 count-requires c =
     let a = c.args in
     let q = subst (λ (x : Content). Sought x a.pattern.now a.rules a.work.now) c.in-Samples.is c.requires in
-    (loaded_starts c.requires, q.filled, q.short, omega arith)
+    (c.requires.held, q.filled, q.short, omega arith)
 
 pub count_steps-requires : goal.count_steps-requires
 count_steps-requires c =
@@ -24,14 +23,14 @@ count_steps-requires c =
 
 pub returns-in-Samples : goal.returns-in-Samples
 unfolding searched
-returns-in-Samples c h e size =
+returns-in-Samples c h =
     let a = c.args in
     let p = a.pattern.now in
     let q = subst (λ (x : Content). Sought x p a.rules a.work.now) c.in-Samples.is c.requires in
     subst (λ (x : Content). Counted x p h c.count.result c.count.new.work) (sym c.in-Samples.is)
-    (loaded_count Samples p a.work.now a.rules h q.filled e size p c.count.new.work 0 c.count.result refl refl c.count.ensures)
+    (loaded_count Samples p h q.filled refl p c.count.new.work c.count.result refl (c.count.ensures h))
 
 pub returns-in-Steps : goal.returns-in-Steps
-returns-in-Steps c h e size =
+returns-in-Steps c h =
     let p = c.args.pattern.now in
-    subst (λ (x : Content). Counted x p h c.count_steps.result c.count_steps.new.work) (sym c.in-Steps.is) (c.count_steps.ensures h e size)
+    subst (λ (x : Content). Counted x p h c.count_steps.result c.count_steps.new.work) (sym c.in-Steps.is) (c.count_steps.ensures h)

@@ -4,11 +4,10 @@ use mathlib.Core.List.{List}
 use Prim.Native.Nat.{ℕ, ◌-◌, ◌≤◌, ◌<◌}
 use native.Mathlib.Omega.{arith}
 use lib.ListN.{length, take, drop}
-use borrow.Author.Rules.{rules}
 use Rattle.definitions.specs.declared.Content.TheVariants.{Steps}
 use Rattle.definitions.specs.Steps.{steps_of, searched}
 use Rattle.lyndon.specs.Steps.{two_samples, steps_size}
-use Rattle.finding.proofs.Counting.{loaded_starts, loaded_count, steps_behind}
+use Rattle.finding.proofs.Counting.{loaded_count, steps_behind}
 use Rattle.finding.proofs.count_steps.Goals.{After-rearrange, Start}
 use Rattle.finding.proofs.count_steps.Goals as goal
 
@@ -27,7 +26,7 @@ pub count-requires : goal.count-requires
 unfolding searched
 count-requires c =
     let p = c.args.pattern.now in (
-      loaded_starts c.requires,
+      c.requires.held,
       subst (λ (l : List ℕ). 0 < length l) (sym (behind (goal.at.count-requires c).After-rearrange)) c.requires.filled,
       subst (λ (l : List ℕ). length l ≤ 2047) (sym (behind (goal.at.count-requires c).After-rearrange)) (omega (arith, steps_size p, c.requires.short)),
       omega arith,
@@ -35,10 +34,8 @@ count-requires c =
 
 pub returns : goal.returns
 unfolding searched
-returns c h e size =
-    let a = c.args in
-    let p = a.pattern.now in
-    loaded_count Steps p a.work.now a.rules h c.requires.filled e size _ c.count.new.work 1 c.count.result (behind (goal.at.returns c).After-rearrange) refl c.count.ensures
+returns c h =
+    loaded_count Steps c.args.pattern.now h c.requires.filled refl _ c.count.new.work c.count.result (behind (goal.at.returns c).After-rearrange) (c.count.ensures h)
 
 pub rearrange-requires : goal.rearrange-requires
 rearrange-requires c = omega (arith, c.requires.short)

@@ -5,7 +5,6 @@ use Prim.Native.Nat.{ℕ, ◌+◌, ◌-◌, ◌≤◌}
 use native.Mathlib.Omega.{arith}
 use lib.ListN.{length, take, drop, length-take, length-append}
 use lib.Seq.{take_at}
-use borrow.Author.Rules.{rules}
 use Rattle.definitions.specs.Words.{placed}
 use Rattle.definitions.specs.Occurrences.{pattern_cuts}
 use Rattle.definitions.specs.Services.{sample_order}
@@ -61,12 +60,12 @@ pub copy-requires : goal.copy-requires
 copy-requires c =
     let a = c.args in
     subst (λ (x : List ℕ). length x ≤ length a.res.now) (sym (copied (goal.at.copy-requires c).After-list-n))
-    (list_fits (pattern_cuts sample_order a.pattern.now) a.res.now c.list-n.result c.list-n.ensures.0 c.result_fits-a.result c.result_fits-a.ensures c.in-Done.is)
+    (list_fits (pattern_cuts sample_order a.pattern.now) a.res.now c.list-n.result c.list-n.ensures.0 c.result_fits-a.result c.result_fits-a.ensures c.in-Ok.is)
 
 pub returns : goal.returns
 returns c =
     let a = c.args in
-    list_written (pattern_cuts sample_order a.pattern.now) a.res.now c.list-n.result c.list-n.ensures.0 c.result_fits-a.result c.result_fits-a.ensures c.copy.new.to c.in-Done.is
+    list_written (pattern_cuts sample_order a.pattern.now) a.res.now c.list-n.result c.list-n.ensures.0 c.result_fits-a.result c.result_fits-a.ensures c.copy.new.to c.in-Ok.is
     (c.copy.ensures ∙ ap (λ (x : List ℕ). placed x a.res.now) (copied (goal.at.returns c).After-list-n))
 
 pub overflow_add-k : goal.overflow_add-k

@@ -1,6 +1,5 @@
 -- `deliver_found` lists where the result slice is long enough, and else refuses.
 use lib.ListN.{drop}
-use borrow.Author.Rules.{rules}
 use Rattle.definitions.specs.Occurrences.{occurrences}
 use Rattle.results.proofs.Writing.{list_refused, list_fits, list_written}
 use Rattle.finding.proofs.deliver_found.Goals as goal
@@ -17,11 +16,11 @@ list-requires c =
       h,
       c.requires.1,
       c.requires.2,
-      list_fits (occurrences h.pattern (drop a.from h.text)) a.res.now a.n c.requires.3 c.result_fits-fits.result c.result_fits-fits.ensures c.in-Done.is,
+      list_fits (occurrences h.pattern (drop a.from h.text)) a.res.now a.n c.requires.3 c.result_fits-fits.result c.result_fits-fits.ensures c.in-Ok.is,
     )
 
 pub returns : goal.returns
 returns c h e q =
     let a = c.args in
     list_written (occurrences h.pattern (drop a.from h.text)) a.res.now a.n q c.result_fits-fits.result c.result_fits-fits.ensures c.list.new.res
-    c.in-Done.is (c.list.ensures h e).1
+    c.in-Ok.is (c.list.ensures h e).1

@@ -1,13 +1,10 @@
 -- `build_table` finds the ends of the Lyndon words, numbers the rules, and stores the chair number beside the mark.
-use mathlib.Core.Path.{sym, ◌∙◌, ap, subst}
+use mathlib.Core.Path.{◌∙◌, ap, subst}
 use mathlib.Core.List.{List}
-use Prim.Native.Nat.{ℕ}
 use lib.ListN.{length}
-use borrow.Author.Rules.{rules}
 use Rattle.definitions.specs.Grammar.{Rule}
 use Rattle.definitions.specs.Services.{sample_order}
 use Rattle.stack.specs.Areas.{Rules}
-use Rattle.grammar.specs.Built.{Built}
 use Rattle.grammar.proofs.Tabling.{ended_numbers, ended_numbered, rules_size, tabled}
 use Rattle.grammar.proofs.build_table.Goals as goal
 
@@ -22,8 +19,7 @@ returns c =
     λ m.
     let same = ended_numbered sample_order a.n a.chair a.work.now c.ends.new.work m c.ends.ensures c.ends.auto.work in
     let (k, n, b) = c.rules-r.ensures in (
-      subst (λ (l : List ℕ). Built sample_order m.text a.chair l) (sym c.put.ensures)
-          (tabled sample_order a.n a.chair a.work.now c.ends.new.work m c.ends.ensures c.ends.auto.work c.rules-r.new.work
-          (subst (λ (K : List Rule). Rules sample_order K c.rules-r.new.work) same k) b),
+      tabled sample_order a.n a.chair a.work.now c.ends.new.work m c.ends.ensures c.ends.auto.work c.rules-r.new.work
+          (subst (λ (K : List Rule). Rules sample_order K c.rules-r.new.work) same k) b,
       n ∙ ap length same ∙ rules_size sample_order a.n a.chair a.work.now c.ends.new.work m c.ends.ensures c.ends.auto.work,
     )

@@ -1,5 +1,4 @@
 -- `table` places the marked text and makes its table.
-use borrow.Author.Rules.{rules}
 use native.Mathlib.Omega.{arith}
 use Rattle.definitions.specs.Services.{sample_order}
 use Rattle.grammar.proofs.Tabling.{placed_marked, stored_here}

@@ -1,7 +1,6 @@
 -- `is_smaller` compares the first ranks, and has the words compared where these are the same.
 use native.Mathlib.Omega.{arith}
 use lib.ListN.{length-take}
-use borrow.Author.Rules.{rules}
 use Rattle.lists.specs.Parts.{part}
 use Rattle.halves.proofs.Orders.{ranks_same, ranks_differ}
 use Rattle.halves.proofs.is_smaller.Goals as goal

@@ -5,7 +5,7 @@ use Rattle.joins.proofs.Joining.{FitBehind}
 use Rattle.joins.proofs.first_fitting.Given as goal
 
 abbrev pub invariant-loop-i : goal.invariant-loop-i
-invariant-loop-i l = (l.low ≡ l.m - l.right) × FitBehind l.work l.m l.n l.right l.i
+invariant-loop-i l = (l.low ≡ l.fn.pattern.size - l.right) × FitBehind l.work l.fn.pattern.size l.fn.pattern.cuts l.right l.i
 
 abbrev pub decreases-loop-i : goal.decreases-loop-i
 decreases-loop-i l = l.i

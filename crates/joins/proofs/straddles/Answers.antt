@@ -5,6 +5,7 @@ use mathlib.Core.List.{List}
 use Prim.Native.Nat.{ℕ, ◌+◌, ◌-◌, ◌<◌}
 use native.Mathlib.Omega.{arith}
 use lib.ListN.{get_or}
+use borrow.Author.Tests.{ne_eqb}
 use Rattle.definitions.specs.Words.{same}
 use Rattle.lists.specs.Bools.{not_so}
 use Rattle.lists.specs.Parts.{part, part_at, part_taken}
@@ -26,13 +27,13 @@ differ w m c join h d =
     ∙ part_at PATTERN m w (c - 1) 0 inside
     ∙ ap (λ (i : ℕ). get_or w i 0) here)))
 
+pub returns-else-work-join : goal.returns-else-work-join
+returns-else-work-join c =
+    let a = c.args in
+    ne_eqb _ _ c.if-work-join.false ∙ differ a.work.now a.m a.c a.join c.requires.0 c.if-work-join.false
+
 pub returns-then-work-join : goal.returns-then-work-join
 returns-then-work-join c =
-    let a = c.args in
-    differ a.work.now a.m a.c a.join c.requires.0 c.if-work-join.true
-
-pub returns : goal.returns
-returns c =
     let a = c.args in
     let at = a.join - a.c in
     c.equal.ensures

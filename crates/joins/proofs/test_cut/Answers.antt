@@ -1,13 +1,12 @@
 -- `test_cut` counts one test whatever comes of it.
 use mathlib.Core.Path.{◌≡◌, refl, sym, ◌∙◌, ap}
-use mathlib.Core.Bool.{true, false}
 use Prim.Native.Nat.{ℕ, ◌+◌, ◌-◌}
 use native.Mathlib.Omega.{arith}
 use Rattle.definitions.specs.Words.{same}
 use Rattle.lists.specs.Bools.{cond_true, cond_false}
 use Rattle.lists.specs.Parts.{part}
 use Rattle.layout.specs.Layout.{PATTERN, PACK}
-use Rattle.joins.proofs.test_cut.Goals.{After-straddles}
+use Rattle.joins.proofs.test_cut.Goals.{After-straddles, then-straddles, else-straddles}
 use Rattle.joins.proofs.test_cut.Goals as goal
 
 -- what `straddles` answers
@@ -22,18 +21,12 @@ straddles-requires c =
     let e = c.wide.ensures in
     (record { some = omega (arith, e, h.some); inside = omega (arith, e, h.inside); short = h.short; front = omega (arith, e, h.front); tail = omega (arith, e, h.tail) }, c.requires.1)
 
-pub returns-then-not-straddles : goal.returns-then-not-straddles
-returns-then-not-straddles c =
-    let a = c.args in
-    let missed : c.straddles.result ≡ false = c.if-not-straddles.true in (
-      sym (cond_false (same (part (a.join - a.c) a.m a.work.now) (part PATTERN a.m a.work.now)) (PACK + a.c) a.before.found (sym (compared (goal.at.returns-then-not-straddles c).After-straddles) ∙ missed)),
-      refl,
-    )
-
 pub returns : goal.returns
 returns c =
     let a = c.args in
-    let hit : c.straddles.result ≡ true = c.if-not-straddles.false in (
-      sym (cond_true (same (part (a.join - a.c) a.m a.work.now) (part PATTERN a.m a.work.now)) (PACK + a.c) a.before.found (sym (compared (goal.at.returns c).After-straddles) ∙ hit)),
-      refl,
-    )
+    let k = compared (goal.at.returns c).After-straddles in
+    let test = same (part (a.join - a.c) a.m a.work.now) (part PATTERN a.m a.work.now) in
+    elim c.if-straddles.branch [
+      | then-straddles w ↦ (w.found-is ∙ sym (cond_true test (PACK + a.c) a.before.found (sym k ∙ w.if-straddles.true)), refl)
+      | else-straddles w ↦ (w.found-is ∙ sym (cond_false test (PACK + a.c) a.before.found (sym k ∙ w.if-straddles.false)), refl)
+    ]

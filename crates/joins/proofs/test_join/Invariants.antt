@@ -9,13 +9,13 @@ use Rattle.layout.specs.Layout.{CUTS}
 use Rattle.joins.proofs.Joining.{Sought}
 use Rattle.joins.proofs.test_join.Given as goal
 
-abbrev pub invariant-loop-tested : goal.invariant-loop-tested
-invariant-loop-tested l = (l.join ≡ l.at + l.left)
-    × (l.i ≤ l.n)
-    × ((j : ℕ) → l.i ≤ j → j < l.n → l.m - get_or l.work (CUTS + j) 0 ≤ l.right)
-    × Sought l.work l.m l.at l.left l.right l.i l.tested.found
-    × (l.tested.tests ≡ l.before + fitting l.m l.left l.right (part CUTS l.i l.work))
-    × (l.tested.tests ≤ l.before + l.i)
+abbrev pub invariant-loop-pattern : goal.invariant-loop-pattern
+invariant-loop-pattern l = (l.join ≡ l.at + l.left)
+    × (l.i ≤ l.fn.pattern.cuts)
+    × ((j : ℕ) → l.i ≤ j → j < l.fn.pattern.cuts → l.fn.pattern.size - get_or l.work (CUTS + j) 0 ≤ l.right)
+    × Sought l.work l.fn.pattern.size l.at l.left l.right l.i l.tested.found
+    × (l.tested.tests ≡ fitting l.fn.pattern.size l.left l.right (part CUTS l.i l.work))
+    × (l.tested.tests ≤ l.i)
 
-abbrev pub decreases-loop-tested : goal.decreases-loop-tested
-decreases-loop-tested l = l.n - l.i
+abbrev pub decreases-loop-pattern : goal.decreases-loop-pattern
+decreases-loop-pattern l = l.fn.pattern.cuts - l.i

@@ -2,7 +2,6 @@
 use mathlib.Core.Path.{sym, ◌∙◌}
 use Prim.Native.Nat.{◌+◌, ◌≤◌, ◌<◌}
 use native.Mathlib.Omega.{arith}
-use borrow.Author.Rules.{rules}
 use Rattle.lyndon.specs.Ruled.{PairOf}
 use Rattle.layout.specs.Layout.{length_in}
 use Rattle.decoding.proofs.Rules.{symbol_read, pair_read}
@@ -10,16 +9,16 @@ use Rattle.lengths.proofs.Sizes.{rules_few, symbol_length, pair_length, pair_fit
 use Rattle.lengths.proofs.length_of.Goals.{In-Pair}
 use Rattle.lengths.proofs.length_of.Goals as goal
 
-pub rule_of-rule-requires : goal.rule_of-rule-requires
-rule_of-rule-requires c = omega (arith, c.requires.1, c.requires.0.lent.shaped.even)
+pub rule_of-requires : goal.rule_of-requires
+rule_of-requires c = omega (arith, c.requires.1, c.requires.0.lent.shaped.even)
 
 pub returns-in-Symbol : goal.returns-in-Symbol
 returns-in-Symbol c =
-    symbol_length c.requires.0 c.in-Symbol.field-0 c.in-Symbol.field-1 (symbol_read c.args.table.now c.args.r c.requires.0.lent.shaped c.requires.1 c.in-Symbol.field-0 c.in-Symbol.field-1 (sym c.rule_of-rule.ensures ∙ c.in-Symbol.is))
+    symbol_length c.requires.0 c.in-Symbol.field-0 c.in-Symbol.field-1 (symbol_read c.args.table.now c.args.r c.requires.0.lent.shaped c.requires.1 c.in-Symbol.field-0 c.in-Symbol.field-1 (sym c.rule_of.ensures ∙ c.in-Symbol.is))
 
 is_pair_lem : (c : In-Pair) → let a = c.args in PairOf a.table.now a.r c.in-Pair.left c.in-Pair.right
 is_pair_lem c =
-    pair_read c.args.table.now c.args.r c.requires.0.lent.shaped c.requires.1 c.in-Pair.left c.in-Pair.right (sym c.rule_of-rule.ensures ∙ c.in-Pair.is)
+    pair_read c.args.table.now c.args.r c.requires.0.lent.shaped c.requires.1 c.in-Pair.left c.in-Pair.right (sym c.rule_of.ensures ∙ c.in-Pair.is)
 
 room : (c : In-Pair) → let a = c.args in
     (c.in-Pair.left < 2304) × (c.in-Pair.right < 2304) × (length_in a.work.now c.in-Pair.left + length_in a.work.now c.in-Pair.right ≤ 4096)

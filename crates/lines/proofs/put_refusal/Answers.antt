@@ -22,7 +22,7 @@ returns-in_default c =
 pub returns : goal.returns
 unfolding refusal
 returns c =
-    let line : refusal c.args.answer ≡ named refused_name c.wide.result = ap refusal c.in-Refused.is ∙ ap (λ (n : ℕ). named refused_name n) (sym c.wide.ensures) in
+    let line : refusal c.args.answer ≡ named refused_name c.wide.result = ap refusal c.in-Err.is ∙ ap (λ (n : ℕ). named refused_name n) (sym (c.wide.ensures ∙ c.number_of.ensures)) in
     record {
       value = c.put_named.ensures.value ∙ ap length (sym line);
       out_after = c.put_named.ensures.out_after ∙ ap (λ (l : List ℕ). placed l c.args.out.now) (sym line);

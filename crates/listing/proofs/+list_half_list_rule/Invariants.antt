@@ -9,8 +9,8 @@ decreases-list_half l = 2 * l.r + 1
 abbrev pub decreases-list_rule : goal.decreases-list_rule
 decreases-list_rule l = 2 * l.r
 
-abbrev pub invariant-list_rule-loop-rule : goal.invariant-list_rule-loop-rule
-invariant-list_rule-loop-rule l = Remains l.work l.first l.r l.at l.written l.fn.res l.rest l.place l.n l.res
+abbrev pub invariant-list_rule-loop-u : goal.invariant-list_rule-loop-u
+invariant-list_rule-loop-u l = Remains l.work l.first l.r l.at l.written l.fn.res l.rest l.place l.n l.res
 
-abbrev pub decreases-list_rule-loop-rule : goal.decreases-list_rule-loop-rule
-decreases-list_rule-loop-rule l = l.rest
+abbrev pub decreases-list_rule-loop-u : goal.decreases-list_rule-loop-u
+decreases-list_rule-loop-u l = l.rest

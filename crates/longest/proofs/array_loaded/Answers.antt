@@ -4,7 +4,6 @@ use mathlib.Core.List.{List, map}
 use Prim.Native.Nat.{ℕ, ◌+◌, ◌-◌}
 use native.Mathlib.Omega.{arith}
 use lib.ListN.{take, drop, length-take, length-drop}
-use borrow.Author.Rules.{rules}
 use Rattle.definitions.specs.Words.{placed, lyndon_array}
 use Rattle.definitions.specs.Table.{rank_of}
 use Rattle.lists.specs.Parts.{part, part_taken}
@@ -20,35 +19,35 @@ copied n v a e =
     part_taken (LONGEST + 1) (LONGEST + 1 + n - (LONGEST + 1)) n v q ∙ e
 
 pub returns-in_default : goal.returns-in_default
-returns-in_default c h e =
+returns-in_default c o h =
     let n = c.text_length-n.result in
-    list_refused (lyndon_array (map (rank_of h.order) h.text)) c.args.res.now n (size h n (c.text_length-n.ensures h e)) c.result_fits-a.result c.result_fits-a.ensures c.in_default.is
+    list_refused (lyndon_array (map (rank_of o) h.text)) c.args.res.now n (size h n (c.text_length-n.ensures o h)) c.result_fits-a.result c.result_fits-a.ensures c.in_default.is
 
 pub place_array-requires : goal.place_array-requires
 place_array-requires c =
-    (c.requires.0, c.text_length-n.ensures c.requires.0 c.requires.1)
+    (c.requires.0, c.args.rules, c.requires.1, c.text_length-n.ensures c.requires.0 c.requires.1)
 
 pub overflow_add-end : goal.overflow_add-end
 overflow_add-end c =
-    omega (arith, few c.requires.0 c.text_length-n.result (c.text_length-n.ensures c.requires.0 c.requires.1))
+    omega (arith, few c.requires.1 c.text_length-n.result (c.text_length-n.ensures c.requires.0 c.requires.1))
 
 pub slice_bounds-copy-end : goal.slice_bounds-copy-end
 slice_bounds-copy-end c =
-    omega (arith, few c.requires.0 c.text_length-n.result (c.text_length-n.ensures c.requires.0 c.requires.1))
+    omega (arith, few c.requires.1 c.text_length-n.result (c.text_length-n.ensures c.requires.0 c.requires.1))
 
 pub copy-requires : goal.copy-requires
 copy-requires c =
-    let h = c.requires.0 in
+    let (o, h) = c.requires in
     let n = c.text_length-n.result in
-    let q = c.text_length-n.ensures h c.requires.1 in
-    let a = lyndon_array (map (rank_of h.order) h.text) in
-    simp (length-take, length-drop) (omega (arith, size h n q, list_fits a c.args.res.now n (size h n q) c.result_fits-a.result c.result_fits-a.ensures c.in-Done.is))
+    let q = c.text_length-n.ensures o h in
+    let a = lyndon_array (map (rank_of o) h.text) in
+    simp (length-take, length-drop) (omega (arith, size h n q, list_fits a c.args.res.now n (size h n q) c.result_fits-a.result c.result_fits-a.ensures c.in-Ok.is))
 
 pub returns : goal.returns
-returns c h e =
+returns c o h =
     let n = c.text_length-n.result in
-    let q = c.text_length-n.ensures h e in
-    let a = lyndon_array (map (rank_of h.order) h.text) in
+    let q = c.text_length-n.ensures o h in
+    let a = lyndon_array (map (rank_of o) h.text) in
     let old = c.args.res.now in
-    list_written a old n (size h n q) c.result_fits-a.result c.result_fits-a.ensures c.copy.new.to c.in-Done.is
-    (c.copy.ensures ∙ ap (λ (l : List ℕ). placed l old) (copied n c.place_array.new.work a (c.place_array.ensures h q)))
+    list_written a old n (size h n q) c.result_fits-a.result c.result_fits-a.ensures c.copy.new.to c.in-Ok.is
+    (c.copy.ensures ∙ ap (λ (l : List ℕ). placed l old) (copied n c.place_array.new.work a (c.place_array.ensures o c.args.rules h q)))

@@ -1,11 +1,10 @@
 -- `lyndon_length` is refused where the table is not opened; else it is decided by the length at the position, and the work slice is cleared.
 use mathlib.Core.Path.{refl}
 use native.Mathlib.Omega.{arith}
-use borrow.Author.Rules.{rules}
 use Rattle.definitions.specs.Services.{sample_order, lyndon_length_service}
 use Rattle.lists.specs.Serving.{answer_refuses}
-use Rattle.opening.proofs.Services.{ready, opening_refused, Succeeded, opening_done, opening_lent}
-use Rattle.lyndon_words.proofs.lyndon_length.Goals.{In-Done}
+use Rattle.opening.proofs.Services.{opening_refused, Succeeded, opening_done, opened_held, opening_lent}
+use Rattle.lyndon_words.proofs.lyndon_length.Goals.{In-Ok}
 use Rattle.lyndon_words.proofs.lyndon_length.Goals as goal
 
 pub returns-in_default : goal.returns-in_default
@@ -14,21 +13,21 @@ returns-in_default c =
     opening_refused _ c.admit-a.ensures c.in_default.is (answer_refuses c.admit-a.result) (λ d. refl)
 
 -- the table is opened
-succeeded : (k : In-Done) → let a = k.args in
-    Succeeded sample_order a.table.now a.work.now k.admit-a.new.work k.in-Done.rules
-succeeded k = opening_done k.admit-a.ensures k.in-Done.is
+succeeded : (k : In-Ok) → let a = k.args in
+    Succeeded sample_order a.table.now a.work.now k.admit-a.new.work k.in-Ok.rules
+succeeded k = opening_done k.admit-a.ensures k.in-Ok.is
 
 pub slice_bounds-length_loaded-end : goal.slice_bounds-length_loaded-end
-slice_bounds-length_loaded-end c = omega (arith, (succeeded (goal.at.slice_bounds-length_loaded-end c).In-Done).loads.long)
+slice_bounds-length_loaded-end c = omega (arith, (succeeded (goal.at.slice_bounds-length_loaded-end c).In-Ok).loads.long)
 
 pub length_loaded-b-requires : goal.length_loaded-b-requires
-length_loaded-b-requires c = let x = succeeded (goal.at.length_loaded-b-requires c).In-Done in (ready x.loads, x.rules)
+length_loaded-b-requires c = (sample_order, opened_held (succeeded (goal.at.length_loaded-b-requires c).In-Ok))
 
 pub clear_front-requires : goal.clear_front-requires
-clear_front-requires c = omega (arith, (succeeded (goal.at.clear_front-requires c).In-Done).loads.long)
+clear_front-requires c = omega (arith, (succeeded (goal.at.clear_front-requires c).In-Ok).loads.long)
 
 pub returns : goal.returns
-unfolding lyndon_length_service ready
+unfolding lyndon_length_service opened_held
 returns c =
-    let x = succeeded (goal.at.returns c).In-Done in
-    opening_lent x (refl, refl) c.length_loaded-b.new.work c.length_loaded-b.auto.work c.clear_front.ensures (c.length_loaded-b.ensures (ready x.loads) x.rules)
+    let x = succeeded (goal.at.returns c).In-Ok in
+    opening_lent x (refl, refl) c.length_loaded-b.new.work c.length_loaded-b.auto.work c.clear_front.ensures (c.length_loaded-b.ensures sample_order (opened_held x))

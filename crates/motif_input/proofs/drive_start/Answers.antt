@@ -1,11 +1,10 @@
 -- `drive_start` steps over byte 10, where there is one.
-use Rattle.motif_input.proofs.Splitting.{behind_ten, at_end}
+use native.Mathlib.Omega.{arith}
+use Rattle.motif_input.proofs.Splitting.{motif_fits, drive_starts}
 use Rattle.motif_input.proofs.drive_start.Goals as goal
 
-pub returns-then-n-input : goal.returns-then-n-input
-returns-then-n-input c =
-    behind_ten c.args.input.now c.motif_length-n.result c.motif_length-n.ensures c.if-n-input.true
+pub overflow_add-motif_length : goal.overflow_add-motif_length
+overflow_add-motif_length c = omega (arith, c.motif_length.ensures, motif_fits c.args.input.now)
 
 pub returns : goal.returns
-returns c =
-    at_end c.args.input.now c.motif_length-n.result c.motif_length-n.ensures c.if-n-input.false
+returns c = rw c.min.ensures (drive_starts c.args.input.now c.motif_length.result c.motif_length.ensures)

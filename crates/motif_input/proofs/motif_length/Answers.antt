@@ -1,19 +1,16 @@
--- `motif_length` looks for byte 10. The invariant: the bytes passed belong to the motif, so the rest decides.
-use native.Mathlib.Omega.{arith}
-use Rattle.motif_input.proofs.Splitting.{ends_here, goes_on, ends_last}
+-- `motif_length` looks for byte 10.
+use mathlib.Core.Path.{◌≡◌, sym, ◌∙◌}
+use lib.ListN.{length}
+use borrow.Author.Tests.{tests}
+use Rattle.std.proofs.Common.{rules}
+use Rattle.std.proofs.lemmas.Iterator.{YieldsList-from_slice, IsFirst-from_position, index_from_first}
+use Rattle.definitions.specs.Programs.{motif_of}
+use Rattle.motif_input.proofs.Splitting.{no_byte, ten_here, ten_later}
 use Rattle.motif_input.proofs.motif_length.Goals as goal
-
-pub loop-i-init : goal.loop-i-init
-loop-i-init c = (omega arith, omega arith)
-
-pub returns-then-input-i-eq10 : goal.returns-then-input-i-eq10
-returns-then-input-i-eq10 c =
-    ends_here c.args.input.now c.loop-i.i (omega arith) c.if-input-i-eq10.true c.loop-i.invariant.1
-
-pub loop-i-preserved : goal.loop-i-preserved
-loop-i-preserved c =
-    (omega arith, goes_on c.args.input.now c.loop-i.i (omega arith) c.if-input-i-eq10.false c.loop-i.invariant.1)
 
 pub returns : goal.returns
 returns c =
-    ends_last c.args.input.now c.loop-i.i (omega arith) c.loop-i.invariant.1
+    let s = c.args.input.now in
+    c.unwrap_or.ensures
+    ∙ sym (index_from_first (λ l. length (motif_of l)) (λ b. b ≡ 10) (λ b. b ≡ 10 → ⊥) no_byte ten_here ten_later s c.position.result
+    (IsFirst-from_position _ _ c.position.result (λ b. b ≡ 10) (λ b. b ≡ 10 → ⊥) c.position.ensures.ran (YieldsList-from_slice s cc) (λ x q k. search (rules, tests)) (λ x q k. search (rules, tests))))

@@ -10,7 +10,7 @@ use Rattle.motif_output.proofs.answer.Goals as goal
 
 pub returns-in_default : goal.returns-in_default
 returns-in_default c =
-    let e = drive_refused c.args.input.now c.build_drive-a.result _ c.build_drive-a.new.table c.build_drive-a.ensures _ _ c.in_default.is in
+    let e = drive_refused c.args.input.now c.build_drive-a.result _ c.build_drive-a.new.table c.build_drive-a.ensures c.in_default.is in
     record {
       value = c.put_refusal.ensures.value ∙ ap length e;
       out_after = c.put_refusal.ensures.out_after ∙ ap (λ (x : List ℕ). placed x c.args.out.now) e;
@@ -18,15 +18,15 @@ returns-in_default c =
 
 pub slice_bounds-answer_built-end : goal.slice_bounds-answer_built-end
 slice_bounds-answer_built-end c =
-    omega (arith, (drive_done c.args.input.now c.build_drive-a.result _ c.build_drive-a.new.table c.build_drive-a.ensures _ c.in-Done.is).0)
+    omega (arith, (drive_done c.args.input.now c.build_drive-a.result _ c.build_drive-a.new.table c.build_drive-a.ensures _ c.in-Ok.is).0)
 
 pub answer_built-requires : goal.answer_built-requires
 answer_built-requires c =
-    ((drive_done c.args.input.now c.build_drive-a.result _ c.build_drive-a.new.table c.build_drive-a.ensures _ c.in-Done.is).1, c.requires)
+    ((drive_done c.args.input.now c.build_drive-a.result _ c.build_drive-a.new.table c.build_drive-a.ensures _ c.in-Ok.is).1, c.requires)
 
 pub returns : goal.returns
 returns c =
-    let e = (drive_done c.args.input.now c.build_drive-a.result _ c.build_drive-a.new.table c.build_drive-a.ensures _ c.in-Done.is).2 in
+    let e = (drive_done c.args.input.now c.build_drive-a.result _ c.build_drive-a.new.table c.build_drive-a.ensures _ c.in-Ok.is).2 in
     record {
       value = c.answer_built.ensures.value ∙ ap length e;
       out_after = c.answer_built.ensures.out_after ∙ ap (λ (x : List ℕ). placed x c.args.out.now) e;

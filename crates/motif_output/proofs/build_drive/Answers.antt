@@ -21,7 +21,7 @@ pub returns : goal.returns
 returns c =
     let input = c.args.input.now in
     let from = c.drive_start-from.result in
-    let short = ltb-false 4095 (length input) (done_met (input_too_long input) (length input) c.input_fits-size.ensures c.in-Done.is).0 in
+    let short = ltb-false 4095 (length input) (done_met (input_too_long input) (length input) c.input_fits-size.ensures c.in-Ok.is).0 in
     let text = tail_taken input from ∙ c.drive_start-from.ensures.1 in
     let bytes = drive_bytes input (λ i h. omega (arith, c.shared_slice_known-1.given i)) in
     drive_built sample_order input c.args.table.now _ (omega arith) c.requires short bytes (take (length input - from) (drop from input)) c.build.new.work c.build.new.res c.build.result text c.build.ensures

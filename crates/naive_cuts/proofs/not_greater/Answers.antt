@@ -1,27 +1,37 @@
--- `not_greater` tries the three cases of its definition in turn.
-use mathlib.Core.Path.{sym, ◌∙◌}
+-- `not_greater` makes the three tests of its definition in turn.
+use mathlib.Core.Path.{◌≡◌, ◌∙◌}
+use mathlib.Core.Bool.{◌||◌}
 use mathlib.Core.List.{List, map}
 use Prim.Native.Nat.{ℕ}
+use Rattle.definitions.specs.Words.{begins, lexlt}
 use Rattle.definitions.specs.Table.{rank_of}
 use Rattle.definitions.specs.Services.{sample_order}
-use Rattle.naive_cuts.proofs.Cutting.{prefix_passes, extended_passes, order_decides}
+use Rattle.definitions.specs.Occurrences.{not_greater_at_difference}
+use Rattle.naive_cuts.proofs.Cutting.{first_passed, first_left, one_passed, third_left}
+use Rattle.naive_cuts.proofs.not_greater.Goals.{then-is_prefix, else-is_prefix}
 use Rattle.naive_cuts.proofs.not_greater.Goals as goal
 
 abbrev ranks : List ℕ → List ℕ
 ranks = map (rank_of sample_order)
 
-pub returns-then-is_prefix : goal.returns-then-is_prefix
-returns-then-is_prefix c =
-    let a = c.args in
-    sym (prefix_passes (ranks a.x.now) (ranks a.y.now) (sym c.is_prefix.ensures ∙ c.if-is_prefix.true))
-
 pub returns-then-is_prefix-2 : goal.returns-then-is_prefix-2
+unfolding not_greater_at_difference
 returns-then-is_prefix-2 c =
-    let a = c.args in
-    sym (extended_passes (ranks a.x.now) (ranks a.y.now) (sym c.is_prefix-2.ensures ∙ c.if-is_prefix-2.true))
+    let x = ranks c.args.x.now in
+    let y = ranks c.args.y.now in
+    let v : c.if-is_prefix.value ≡ begins x y || begins y x = elim c.if-is_prefix.branch [
+      | then-is_prefix w ↦ first_passed (begins x y) (begins y x) c.is_prefix.ensures w.if-is_prefix.true w.value-is
+      | else-is_prefix w ↦ first_left (begins x y) (begins y x) c.is_prefix.ensures w.if-is_prefix.false (w.value-is ∙ w.is_prefix-else-is_prefix.ensures)
+    ] in
+    one_passed (begins x y) (begins y x) (lexlt x y) v c.if-is_prefix-2.true
 
-pub returns : goal.returns
-returns c =
-    let a = c.args in
-    c.is_smaller.ensures
-    ∙ sym (order_decides (ranks a.x.now) (ranks a.y.now) (sym c.is_prefix.ensures ∙ c.if-is_prefix.false) (sym c.is_prefix-2.ensures ∙ c.if-is_prefix-2.false))
+pub returns-else-is_prefix-2 : goal.returns-else-is_prefix-2
+unfolding not_greater_at_difference
+returns-else-is_prefix-2 c =
+    let x = ranks c.args.x.now in
+    let y = ranks c.args.y.now in
+    let v : c.if-is_prefix.value ≡ begins x y || begins y x = elim c.if-is_prefix.branch [
+      | then-is_prefix w ↦ first_passed (begins x y) (begins y x) c.is_prefix.ensures w.if-is_prefix.true w.value-is
+      | else-is_prefix w ↦ first_left (begins x y) (begins y x) c.is_prefix.ensures w.if-is_prefix.false (w.value-is ∙ w.is_prefix-else-is_prefix.ensures)
+    ] in
+    c.is_smaller.ensures ∙ third_left (begins x y) (begins y x) (lexlt x y) v c.if-is_prefix-2.false

@@ -1,33 +1,22 @@
--- `follows_at` compares step by step. The invariant: the steps passed agree, so the rest decides.
-use mathlib.Core.Path.{refl, sym, ◌∙◌}
-use native.Mathlib.Omega.{arith}
-use Rattle.naive_steps.proofs.Following.{starts, agrees, differs, drive_ends, pattern_ends}
+-- `follows_at` compares step by step.
+use mathlib.Core.Path.{refl, ◌∙◌, ap}
+use mathlib.Core.List.{List}
+use Prim.Native.Nat.{ℕ, ◌-◌}
+use lib.ListN.{length, take, drop}
+use borrow.Author.Tests.{tests}
+use Rattle.std.proofs.Common.{rules}
+use Rattle.std.proofs.lemmas.Iterator.{YieldsList-from_range}
+use Rattle.std.proofs.lemmas.Iterator.Search.{all_from_yields_List}
+use Rattle.definitions.specs.Words.{begins}
+use Rattle.definitions.specs.Steps.{steps_of}
+use Rattle.lists.specs.Lists.{tail_taken}
+use Rattle.naive_steps.proofs.Following.{same_step, followed}
 use Rattle.naive_steps.proofs.follows_at.Goals as goal
-
-pub loop-k-init : goal.loop-k-init
-loop-k-init c =
-    (omega arith, omega (arith, c.requires.1), starts c.args.pattern.now c.args.drive.now c.args.i 0 refl)
-
-pub returns-then-drive-i : goal.returns-then-drive-i
-returns-then-drive-i c =
-    let a = c.args in
-    sym (c.loop-k.invariant.2 ∙ drive_ends a.pattern.now a.drive.now a.i c.loop-k.k (omega arith) (omega arith))
-
-pub returns-then-step_at : goal.returns-then-step_at
-returns-then-step_at c =
-    let a = c.args in
-    sym (c.loop-k.invariant.2
-    ∙ differs a.pattern.now a.drive.now a.i c.loop-k.k (omega arith) (omega arith) (λ e. c.if-step_at.true (c.step_at.ensures ∙ e ∙ sym c.step_at-in-loop-k.ensures)))
-
-pub loop-k-preserved : goal.loop-k-preserved
-loop-k-preserved c =
-    let a = c.args in (
-      omega arith,
-      omega arith,
-      c.loop-k.invariant.2 ∙ agrees a.pattern.now a.drive.now a.i c.loop-k.k (omega arith) (omega arith) (sym c.step_at.ensures ∙ c.if-step_at.false ∙ c.step_at-in-loop-k.ensures),
-    )
 
 pub returns : goal.returns
 returns c =
-    let a = c.args in
-    sym (c.loop-k.invariant.2 ∙ pattern_ends a.pattern.now a.drive.now a.i c.loop-k.k (omega arith))
+    let p = c.args.pattern.now in
+    let x = take (length c.args.drive.now - c.args.i) (drop c.args.i c.args.drive.now) in
+    all_from_yields_List (same_step p x) _ _ _ c.all.ensures.ran (YieldsList-from_range 1 (length p) (length p - 1) refl refl) (λ k b q r. search (rules, tests))
+    ∙ followed p x
+    ∙ ap (λ (l : List ℕ). begins (steps_of p) (steps_of l)) (tail_taken c.args.drive.now c.args.i)

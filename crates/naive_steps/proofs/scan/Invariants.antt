@@ -1,14 +1,8 @@
 -- `scan` goes over every position of the drive. The invariant: those passed from which the same steps follow stand at the front of the slice.
-use mathlib.Core.Path.{◌≡◌}
-use Prim.Native.Nat.{◌-◌, ◌≤◌}
-use lib.ListN.{length}
 use Rattle.definitions.specs.Words.{below}
 use Rattle.lists.specs.Lists.{Fronted}
 use Rattle.naive_steps.proofs.Following.{follows_in}
 use Rattle.naive_steps.proofs.scan.Given as goal
 
 abbrev pub invariant-loop-i : goal.invariant-loop-i
-invariant-loop-i l = (l.i ≤ length l.drive) × (length l.places ≡ length l.initial.places) × Fronted (below (follows_in l.pattern l.drive) l.i) l.initial.places l.n l.places
-
-abbrev pub decreases-loop-i : goal.decreases-loop-i
-decreases-loop-i l = length l.drive - l.i
+invariant-loop-i l = Fronted (below (follows_in l.pattern l.drive) l.i) l.initial.places l.n l.places

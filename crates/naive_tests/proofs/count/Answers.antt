@@ -1,25 +1,24 @@
--- `count` adds rule by rule. The invariant: what is counted are the tests of the rules passed, at most 64 each.
-use mathlib.Core.Path.{sym, ◌∙◌}
+-- `count` adds the tests of every rule, at most 64 each.
+use mathlib.Core.Path.{refl, ◌∙◌}
 use native.Mathlib.Omega.{arith}
-use borrow.Author.Rules.{rules}
+use Rattle.std.proofs.Common.{rules}
+use Rattle.std.proofs.lemmas.Iterator.{YieldsList-from_range, YieldsList-from_map}
+use Rattle.std.proofs.lemmas.Iterator.Consumers.{YieldsList-at, sum_from_yields_List, fits_from_yields_list}
+use Rattle.definitions.specs.declared.Order.TheVariants.{Unsigned}
 use Rattle.definitions.specs.Table.{rule_count}
-use Rattle.naive_tests.proofs.Testing.{no_rule, rule_more, all_rules}
+use Rattle.naive_tests.proofs.Testing.{rule_tests, room, rules_tested}
 use Rattle.naive_tests.proofs.count.Goals as goal
 
-pub loop-r-init : goal.loop-r-init
-loop-r-init c =
+pub sum-requires-clause-fits : goal.sum-requires-clause-fits
+sum-requires-clause-fits c =
     let a = c.args in
-    (omega arith, omega arith, c.measure.ensures, λ o. sym (no_rule o a.table.now a.m a.cuts.now))
-
-pub tests_of-n-requires : goal.tests_of-n-requires
-tests_of-n-requires c = (c.loop-r.invariant.2, search rules, search rules)
-
-pub loop-r-preserved : goal.loop-r-preserved
-loop-r-preserved c =
-    let a = c.args in
-    (omega arith, omega arith, c.loop-r.invariant.2, λ o. omega (arith, c.loop-r.invariant.3 o, c.tests_of-n.ensures.1 o, rule_more o a.table.now a.m a.cuts.now c.loop-r.r))
+    fits_from_yields_list c.map.result _
+    (YieldsList-from_map _ (rule_tests Unsigned a.table.now a.m a.cuts.now) (YieldsList-at c.map.ensures.source (YieldsList-from_range 0 (rule_count a.table.now) (rule_count a.table.now) refl (omega arith))) c.map.ensures.closure (λ x r q k. search rules))
+    (omega (arith, room Unsigned a.table.now a.m a.cuts.now 0 (rule_count a.table.now) (omega arith)))
 
 pub returns : goal.returns
 returns c =
     let a = c.args in
-    λ o. c.loop-r.invariant.3 o ∙ all_rules o a.table.now a.m a.cuts.now c.loop-r.r (rule_count a.table.now) (omega arith)
+    λ o. sum_from_yields_List c.map.result c.sum.result c.sum.ensures.ran
+    (YieldsList-from_map _ (rule_tests o a.table.now a.m a.cuts.now) (YieldsList-at c.map.ensures.source (YieldsList-from_range 0 (rule_count a.table.now) (rule_count a.table.now) refl (omega arith))) c.map.ensures.closure (λ x r q k. search rules))
+    ∙ rules_tested o a.table.now a.m a.cuts.now (rule_count a.table.now)

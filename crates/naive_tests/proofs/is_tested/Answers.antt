@@ -1,5 +1,7 @@
 -- `is_tested` makes the definition's tests: a length as it is kept passes for a cut and a pattern whenever the length itself does.
+use mathlib.Core.Path.{◌∙◌}
 use native.Mathlib.Omega.{arith}
+use borrow.Author.Tests.{lt-leb}
 use Rattle.definitions.specs.declared.Order.TheVariants.{Unsigned}
 use Rattle.naive_tests.proofs.Testing.{no_pair, left_short, right_decides}
 use Rattle.naive_tests.proofs.is_tested.Goals as goal
@@ -18,7 +20,7 @@ returns-then-cut-length_at c =
     let a = c.args in
     λ o. right_decides o a.table.now a.m a.r a.c c.requires.2 c.if-x-ne1.false (omega arith) c.length_at.result (c.length_at.ensures a.table.now c.requires.0 o) c.length_at-then-cut-length_at.result (c.length_at-then-cut-length_at.ensures a.table.now c.requires.0 o) c.requires.1 (omega (arith, c.if-cut-length_at.true))
 
-pub returns : goal.returns
-returns c =
+pub returns-else-cut-length_at : goal.returns-else-cut-length_at
+returns-else-cut-length_at c =
     let a = c.args in
-    λ o. left_short o a.table.now a.m a.r a.c c.requires.2 c.if-x-ne1.false (omega arith) c.length_at.result (c.length_at.ensures a.table.now c.requires.0 o) (omega (arith, c.if-cut-length_at.false))
+    λ o. lt-leb a.c c.length_at.result (omega (arith, c.if-cut-length_at.false)) ∙ left_short o a.table.now a.m a.r a.c c.requires.2 c.if-x-ne1.false (omega arith) c.length_at.result (c.length_at.ensures a.table.now c.requires.0 o) (omega (arith, c.if-cut-length_at.false))

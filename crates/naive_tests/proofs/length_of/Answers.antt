@@ -1,12 +1,10 @@
 -- `length_of` adds the lengths of the rules that a rule's two words name, as they are kept.
-use mathlib.Core.Path.{◌≡◌}
+use mathlib.Core.Path.{◌∙◌}
 use Prim.Native.Nat.{◌+◌, ◌*◌}
 use native.Mathlib.Omega.{arith}
-use lib.ListN.{length, get_or}
-use Rattle.definitions.specs.declared.Order.{Order}
+use lib.ListN.{get_or}
 use Rattle.definitions.specs.declared.Order.TheVariants.{Unsigned}
-use Rattle.definitions.specs.Table.{string_of, strings}
-use Rattle.naive_tests.specs.Lengths.{kept}
+use Rattle.definitions.specs.Table.{strings}
 use Rattle.naive_tests.proofs.Testing.{symbol_length, pair_length}
 use Rattle.naive_tests.proofs.length_of.Goals.{After-length_at-2}
 use Rattle.naive_tests.proofs.length_of.Goals as goal
@@ -17,19 +15,13 @@ returns-then-x-eq0 c =
     let t = a.table.now in
     λ o. symbol_length o (strings o t a.r) (get_or t (2 * a.r) 0) (get_or t (2 * a.r + 1) 0) c.if-x-eq0.true
 
-pub overflow_add-k : goal.overflow_add-k
-overflow_add-k c =
+pub overflow_add-length_at : goal.overflow_add-length_at
+overflow_add-length_at c =
     omega (arith, c.length_at.ensures c.args.table.now c.requires.0 Unsigned, c.length_at-2.ensures c.args.table.now c.requires.0 Unsigned)
 
-sum : (c : After-length_at-2) (o : Order) → let a = c.args in
-    kept (c.length_at.result + c.length_at-2.result) ≡ kept (length (string_of o (strings o a.table.now a.r) (get_or a.table.now (2 * a.r) 0) (get_or a.table.now (2 * a.r + 1) 0)))
-sum c o =
+pub returns : goal.returns
+returns c =
     let t = c.args.table.now in
     let r = c.args.r in
-    pair_length o (strings o t r) (get_or t (2 * r) 0) (get_or t (2 * r + 1) 0) c.if-x-eq0.false c.length_at.result c.length_at-2.result (c.length_at.ensures t c.requires.0 o) (c.length_at-2.ensures t c.requires.0 o)
-
-pub returns-then-k-lt-MOST : goal.returns-then-k-lt-MOST
-returns-then-k-lt-MOST c = λ o. omega (arith, sum (goal.at.returns-then-k-lt-MOST c).After-length_at-2 o)
-
-pub returns-else-k-lt-MOST : goal.returns-else-k-lt-MOST
-returns-else-k-lt-MOST c = λ o. omega (arith, sum (goal.at.returns-else-k-lt-MOST c).After-length_at-2 o)
+    λ o. c.min.ensures
+    ∙ pair_length o (strings o t r) (get_or t (2 * r) 0) (get_or t (2 * r + 1) 0) c.if-x-eq0.false c.length_at.result c.length_at-2.result (c.length_at.ensures t c.requires.0 o) (c.length_at-2.ensures t c.requires.0 o)

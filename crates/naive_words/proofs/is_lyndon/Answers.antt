@@ -1,29 +1,29 @@
--- `is_lyndon` compares the word with suffix after suffix. The invariant: it is smaller than each that was passed.
-use mathlib.Core.Path.{◌≡◌, sym, ◌∙◌}
-use mathlib.Core.Bool.{true}
-use mathlib.Core.List.{map}
-use Prim.Native.Nat.{◌-◌, ◌≤◌}
-use native.Mathlib.Omega.{arith}
+-- `is_lyndon` compares the word with suffix after suffix.
+use mathlib.Core.Path.{refl, sym, ◌∙◌, ap}
+use mathlib.Core.Bool.{Bool, ◌&&◌}
+use Prim.Native.Nat.{◌-◌, ◌≤◌, ◌<◌}
 use lib.ListN.{length}
-use borrow.Author.Tests.{not-true, not-false}
+use borrow.Author.Tests.{tests, lt-ltb, le-ltb}
+use Rattle.std.proofs.Common.{rules}
+use Rattle.std.proofs.lemmas.Iterator.{YieldsList-from_range}
+use Rattle.std.proofs.lemmas.Iterator.Search.{all_from_yields_List}
+use Rattle.std.specs.List.{list_all, range_with_len}
 use Rattle.definitions.specs.Table.{rank_of}
 use Rattle.definitions.specs.Services.{sample_order}
-use Rattle.naive_words.proofs.Trying.{from_one, smaller_than_suffix, none_tried, one_more_tried, suffix_greater, suffix_smaller, all_greater}
+use Rattle.naive_words.proofs.Trying.{smaller_suffix, lyndon_is}
 use Rattle.naive_words.proofs.is_lyndon.Goals as goal
 
-pub loop-k-init : goal.loop-k-init
-loop-k-init c = (omega arith, none_tried (smaller_than_suffix (map (rank_of sample_order) c.args.word.now)))
-
-pub returns-then-not-is_smaller : goal.returns-then-not-is_smaller
-returns-then-not-is_smaller c =
-    sym (suffix_smaller (rank_of sample_order) c.args.word.now c.loop-k.k (omega arith) (omega arith) (sym c.is_smaller.ensures ∙ not-true c.is_smaller.result c.if-not-is_smaller.true-raw))
-
-pub loop-k-preserved : goal.loop-k-preserved
-loop-k-preserved c =
+pub returns-then-not-is_empty : goal.returns-then-not-is_empty
+returns-then-not-is_empty c =
     let w = c.args.word.now in
-    let greater = suffix_greater (rank_of sample_order) w c.loop-k.k (sym c.is_smaller.ensures ∙ not-false c.is_smaller.result c.if-not-is_smaller.false-raw) in
-    (omega arith, one_more_tried (smaller_than_suffix (map (rank_of sample_order) w)) c.loop-k.k c.loop-k.invariant.1 greater)
+    let h : 0 < length w = search (rules, tests) in
+    all_from_yields_List (smaller_suffix (rank_of sample_order) w) _ _ _ c.all.ensures.ran (YieldsList-from_range 1 (length w) (length w - 1) refl refl) (λ k b q r. search (rules, tests))
+    ∙ ap (λ (b : Bool). b && list_all (smaller_suffix (rank_of sample_order) w) (range_with_len 1 (length w - 1))) (sym (lt-ltb 0 (length w) h))
+    ∙ lyndon_is (rank_of sample_order) w
 
-pub returns : goal.returns
-returns c =
-    sym (all_greater (rank_of sample_order) c.args.word.now c.loop-k.k (omega arith) c.loop-k.invariant.1)
+pub returns-else-not-is_empty : goal.returns-else-not-is_empty
+returns-else-not-is_empty c =
+    let w = c.args.word.now in
+    let h : length w ≤ 0 = search (rules, tests) in
+    rw c.if-not-is_empty.false
+    (ap (λ (b : Bool). b && list_all (smaller_suffix (rank_of sample_order) w) (range_with_len 1 (length w - 1))) (sym (le-ltb 0 (length w) h)) ∙ lyndon_is (rank_of sample_order) w)

@@ -1,6 +1,5 @@
 -- `number` pushes the mark's rule, and then goes over the samples.
 use mathlib.Core.Path.{◌∙◌}
-use borrow.Author.Rules.{rules}
 use Rattle.numbering.proofs.Stepping.{mark_push, mark_pushed}
 use Rattle.numbering.proofs.number.Goals as goal
 

@@ -2,7 +2,6 @@
 use mathlib.Core.Path.{◌∙◌, ap, subst}
 use mathlib.Core.List.{List}
 use lib.ListN.{length}
-use borrow.Author.Rules.{rules}
 use Rattle.definitions.specs.Grammar.{Rule}
 use Rattle.stack.specs.Areas.{Rules}
 use Rattle.numbering.proofs.Clearing.{cleared_numbers, cleared_buckets, cleared_numbered, cleared_stays}

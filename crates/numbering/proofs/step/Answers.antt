@@ -1,6 +1,5 @@
 -- `step` pushes the rule of a symbol and does its joins.
 use mathlib.Core.Path.{◌∙◌}
-use borrow.Author.Rules.{rules}
 use Rattle.numbering.proofs.Stepping.{step_push, step_join, step_done}
 use Rattle.numbering.proofs.step.Goals as goal
 

@@ -1,5 +1,4 @@
 -- `settle` judges the table in the front of the work slice, and clears it where it refuses.
-use borrow.Author.Rules.{rules}
 use Rattle.opening.proofs.Settling.{settled_refused, settled_done}
 use Rattle.opening.proofs.settle.Goals as goal
 
@@ -12,4 +11,4 @@ returns-in_default c =
 pub returns : goal.returns
 returns c =
     let a = c.args in
-    settled_done a.order a.table.now a.work.now c.load-a.new.work c.load-a.result c.requires.2 c.load-a.auto.work c.load-a.ensures c.in-Done.is
+    settled_done a.order a.table.now a.work.now c.load-a.new.work c.load-a.result c.requires.2 c.load-a.auto.work c.load-a.ensures c.in-Ok.is

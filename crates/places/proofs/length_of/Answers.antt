@@ -14,7 +14,7 @@ use Rattle.places.proofs.length_of.Goals as goal
 pub returns-in-Symbol : goal.returns-in-Symbol
 returns-in-Symbol c =
     let a = c.args in
-    λ g h k. sym (ap length ((kept_symbol k.kept a.r h c.in-Symbol.field-0 c.in-Symbol.field-1 (sym c.rule_in-rule.ensures ∙ c.in-Symbol.is)).string g.order))
+    λ g h k. sym (ap length ((kept_symbol k.kept a.r h c.in-Symbol.field-0 c.in-Symbol.field-1 (sym c.rule_in.ensures ∙ c.in-Symbol.is)).string g.order))
 
 -- the rule is a pair of rules before it, and not too long
 pair_known : (c : In-Pair) → let a = c.args in
@@ -24,7 +24,7 @@ pair_known : (c : In-Pair) → let a = c.args in
 pair_known c =
     let a = c.args in
     let (g, h, k) = c.requires in
-    let f = sym c.rule_in-rule.ensures ∙ c.in-Pair.is in
+    let f = sym c.rule_in.ensures ∙ c.in-Pair.is in
     let p = kept_pair k.kept a.r h c.in-Pair.left c.in-Pair.right f in
     let (sum, short) = pair_length g a.work.now a.r k h c.in-Pair.left c.in-Pair.right p in
     (f, omega (arith, p.left, h, k.most), omega (arith, p.right, h, k.most), omega (arith, sum, short))

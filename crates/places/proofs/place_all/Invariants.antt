@@ -1,12 +1,7 @@
 -- `place_all` goes from the last rule down. The invariant: the halves of the rules from r on have their places, whatever is loaded.
 use mathlib.Core.Path.{◌≡◌}
-use Prim.Native.Nat.{◌≤◌}
-use lib.ListN.{length}
 use Rattle.places.specs.Passes.{Contents, rules_in, Placing}
 use Rattle.places.proofs.place_all.Given as goal
 
 abbrev pub invariant-loop-r : goal.invariant-loop-r
-invariant-loop-r l = (l.r ≤ l.rules) × (length l.work ≡ length l.initial.work) × ((g : Contents) → l.rules ≡ rules_in g → Placing g l.rules l.initial.work → Placing g l.r l.work)
-
-abbrev pub decreases-loop-r : goal.decreases-loop-r
-decreases-loop-r l = l.r
+invariant-loop-r l = (g : Contents) → l.rules ≡ rules_in g → Placing g l.rules l.initial.work → Placing g l.r l.work

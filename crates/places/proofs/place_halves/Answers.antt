@@ -14,10 +14,10 @@ use Rattle.places.proofs.place_halves.Goals as goal
 pub returns-in_default : goal.returns-in_default
 returns-in_default c =
     let a = c.args in
-    λ g h k. place_symbol g a.work.now a.r c.in_default.field-0 c.in_default.field-1 k h (sym c.rule_in-rule.ensures ∙ c.in_default.is)
+    λ g h k. place_symbol g a.work.now a.r c.in_default.field-0 c.in_default.field-1 k h (sym c.rule_in.ensures ∙ c.in_default.is)
 
 is_pair_lem : (c : In-Pair) → let a = c.args in rule_in a.work.now a.r ≡ Pair c.in-Pair.left c.in-Pair.right
-is_pair_lem c = sym c.rule_in-rule.ensures ∙ c.in-Pair.is
+is_pair_lem c = sym c.rule_in.ensures ∙ c.in-Pair.is
 
 room : (c : In-Pair) → let a = c.args in
     (c.in-Pair.left < 2304) × (c.in-Pair.right < 2304) × (place_in a.work.now a.r + length_in a.work.now c.in-Pair.left ≤ 2048)

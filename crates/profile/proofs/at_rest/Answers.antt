@@ -1,15 +1,14 @@
--- `at_rest` tests one part of its definition after the other.
-use native.Mathlib.Omega.{arith}
-use lib.ListN.{length}
-use borrow.Author.Rules.{rules}
-use borrow.Author.Tests.{lt-ltb, le-ltb}
-use Rattle.definitions.specs.Profile.{at_rest}
+-- `at_rest` looks at the first byte, and then at the last.
+use mathlib.Core.Path.{refl, ◌∙◌}
+use Rattle.profile.proofs.Headings.{zero_at, first_other, first_zero}
 use Rattle.profile.proofs.at_rest.Goals as goal
 
-pub returns-then-n-eq0 : goal.returns-then-n-eq0
-unfolding at_rest
-returns-then-n-eq0 c = rw (le-ltb 0 (length c.args.text.now) (omega arith))
+pub returns-then-eq : goal.returns-then-eq
+returns-then-eq c =
+    let first = c.eq.ensures ∙ zero_at c.args.text.now 0 c.first.result _ refl c.first.ensures.value in
+    first_zero c.args.text.now c.eq.result first c.if-eq.true c.eq-then-eq.result (c.eq-then-eq.ensures ∙ zero_at c.args.text.now _ c.last.result _ refl c.last.ensures.value)
 
-pub returns : goal.returns
-unfolding at_rest
-returns c = rw (lt-ltb 0 (length c.args.text.now) (omega arith))
+pub returns-else-eq : goal.returns-else-eq
+returns-else-eq c =
+    let first = c.eq.ensures ∙ zero_at c.args.text.now 0 c.first.result _ refl c.first.ensures.value in
+    first_other c.args.text.now c.eq.result first c.if-eq.false

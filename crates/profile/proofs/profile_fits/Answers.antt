@@ -1,7 +1,6 @@
 -- `profile_fits` is refused by 11, or answers what the check of 12 does.
 use mathlib.Core.Bool.{false}
 use lib.ListN.{length}
-use borrow.Author.Rules.{rules}
 use Rattle.definitions.specs.Services.{first_met, off_heading, profile_checks}
 use Rattle.lists.specs.Decisions.{refused_met, done_met}
 use Rattle.profile.proofs.profile_fits.Goals as goal
@@ -17,4 +16,4 @@ pub returns : goal.returns
 unfolding first_met profile_checks
 returns c =
     let text = c.args.text.now in
-    rw (done_met (off_heading false text) (length text) c.headings_fit-h.ensures c.in-Done.is).0 c.ends_fit.ensures
+    rw (done_met (off_heading false text) (length text) c.headings_fit-h.ensures c.in-Ok.is).0 c.ends_fit.ensures

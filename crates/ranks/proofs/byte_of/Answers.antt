@@ -1,7 +1,6 @@
 -- `byte_of` is the definition's byte, order by order.
 use mathlib.Core.Path.{◌≡◌, refl}
 use Prim.Native.Nat.{ℕ, ◌+◌, ◌-◌, ◌%◌}
-use borrow.Author.Rules.{rules}
 use Rattle.definitions.specs.declared.Order.{Order}
 use Rattle.definitions.specs.declared.Order.TheVariants.{Unsigned, Signed}
 use Rattle.definitions.specs.Table.{byte_of}

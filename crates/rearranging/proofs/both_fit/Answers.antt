@@ -3,7 +3,6 @@ use mathlib.Core.Path.{refl, ◌∙◌, ap}
 use mathlib.Core.List.{[], ◌∷◌}
 use Prim.Native.Nat.{ℕ}
 use lib.ListN.{length}
-use borrow.Author.Rules.{rules}
 use Rattle.definitions.specs.Services.{first_met, text_too_long, result_too_short}
 use Rattle.lists.specs.Decisions.{checked, refused_already, done_met}
 use Rattle.rearranging.proofs.both_fit.Goals as goal
@@ -20,5 +19,5 @@ unfolding first_met
 returns c =
     let a = c.args in
     let text = a.text.now in
-    let (q, g) = done_met (text_too_long text) (length text) c.text_fits-a.ensures c.in-Done.is in
+    let (q, g) = done_met (text_too_long text) (length text) c.text_fits-a.ensures c.in-Ok.is in
     c.result_fits.ensures ∙ ap (λ (m : ℕ). checked (result_too_short m a.n) m) g ∙ rw q refl

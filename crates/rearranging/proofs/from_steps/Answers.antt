@@ -1,5 +1,4 @@
 -- `from_steps` is refused by one of its checks, or writes as many samples as it is handed.
-use borrow.Author.Rules.{rules}
 use Rattle.definitions.specs.Steps.{from_steps}
 use Rattle.definitions.specs.Services.{from_steps_service}
 use Rattle.lyndon.specs.Steps.{from_length}
@@ -15,8 +14,8 @@ unfolding from_steps_service
 returns-in_default c = both_refused (judged (goal.at.returns-in_default c).After-both_fit-a) c.in_default.is
 
 pub restore-requires : goal.restore-requires
-restore-requires c = both_fit (judged (goal.at.restore-requires c).After-both_fit-a) c.in-Done.is
+restore-requires c = both_fit (judged (goal.at.restore-requires c).After-both_fit-a) c.in-Ok.is
 
 pub returns : goal.returns
 unfolding from_steps_service
-returns c = both_written (judged (goal.at.returns c).After-both_fit-a) c.in-Done.is c.restore.ensures
+returns c = both_written (judged (goal.at.returns c).After-both_fit-a) c.in-Ok.is c.restore.ensures

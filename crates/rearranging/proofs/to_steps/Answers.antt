@@ -1,5 +1,4 @@
 -- `to_steps` is refused by one of its checks, or writes as many samples as it is handed.
-use borrow.Author.Rules.{rules}
 use Rattle.definitions.specs.Steps.{to_steps}
 use Rattle.definitions.specs.Services.{to_steps_service}
 use Rattle.lyndon.specs.Steps.{to_length}
@@ -15,8 +14,8 @@ unfolding to_steps_service
 returns-in_default c = both_refused (judged (goal.at.returns-in_default c).After-both_fit-a) c.in_default.is
 
 pub rearrange-requires : goal.rearrange-requires
-rearrange-requires c = both_fit (judged (goal.at.rearrange-requires c).After-both_fit-a) c.in-Done.is
+rearrange-requires c = both_fit (judged (goal.at.rearrange-requires c).After-both_fit-a) c.in-Ok.is
 
 pub returns : goal.returns
 unfolding to_steps_service
-returns c = both_written (judged (goal.at.returns c).After-both_fit-a) c.in-Done.is c.rearrange.ensures
+returns c = both_written (judged (goal.at.returns c).After-both_fit-a) c.in-Ok.is c.rearrange.ensures

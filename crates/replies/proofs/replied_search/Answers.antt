@@ -3,7 +3,6 @@ use mathlib.Core.Path.{◌≡◌, ap}
 use Prim.Native.Nat.{ℕ}
 use Rattle.definitions.specs.declared.Reply.{Reply}
 use Rattle.definitions.specs.declared.SearchReply.{SearchReply}
-use borrow.Author.Rules.{rules}
 use Rattle.replies.proofs.replied_search.Goals as goal
 
 with : (tests : ℕ) {r s : Reply} → r ≡ s

@@ -21,21 +21,21 @@ use Rattle.rule_finds.proofs.found_in.Goals as goal
 
 pub found_of_one-requires : goal.found_of_one-requires
 found_of_one-requires c =
-    record { size = c.args.m; cuts = c.args.n; turn = c.requires.0; short = c.if-m-lt2.true }
+    record { size = c.args.pattern.size; cuts = c.args.pattern.cuts; turn = c.requires.0; short = c.if-pattern-lt2.true }
 
-pub returns-then-m-lt2 : goal.returns-then-m-lt2
-returns-then-m-lt2 c h =
+pub returns-then-pattern-lt2 : goal.returns-then-pattern-lt2
+returns-then-pattern-lt2 c h =
     let a = c.args in
     let t = table_of h.order h.text h.chair in
-    let one : length h.samples ≡ 1 = omega (arith, h.counting.size, h.counting.tried.filled, c.if-m-lt2.true) in (
-      subst (FoundFor h) (sym c.untested.ensures.0) (c.found_of_one.ensures record { size = a.m; cuts = a.n; turn = h; short = c.if-m-lt2.true }),
+    let one : length h.samples ≡ 1 = omega (arith, h.counting.size, h.counting.tried.filled, c.if-pattern-lt2.true) in (
+      subst (FoundFor h) (sym c.untested.ensures.0) (c.found_of_one.ensures record { size = a.pattern.size; cuts = a.pattern.cuts; turn = h; short = c.if-pattern-lt2.true }),
       omega (arith, c.untested.ensures.1, ap length (one_tests h.order t h.samples (length h.samples) a.r one)),
     )
 
 pub returns-then-is_shorter : goal.returns-then-is_shorter
 returns-then-is_shorter c h =
     let a = c.args in
-    let shorter = ltb-true (length_in a.work.now a.r) a.m (sym c.is_shorter.ensures ∙ c.if-is_shorter.true) in (
+    let shorter = ltb-true (length_in a.work.now a.r) a.pattern.size (sym c.is_shorter.ensures ∙ c.if-is_shorter.true) in (
       subst (FoundFor h) (sym c.untested-then-is_shorter.ensures.0)
           (short_found h.order h.text h.chair a.work.now h.counting.loaded a.r h.low (map (rank_of h.order) h.samples)
           (omega (arith, length-map h.samples (rank_of h.order), h.counting.size))),
@@ -52,7 +52,7 @@ is_pair_lem : (c : After-right_in-v) → let a = c.args in
 is_pair_lem c =
     let h = c.requires.0 in
     long_pair h.order h.text h.chair c.args.work.now h.counting.loaded c.args.r h.low
-    (omega (arith, ltb-false (length_in c.args.work.now c.args.r) c.args.m (sym c.is_shorter.ensures ∙ c.if-is_shorter.false), c.if-m-lt2.false))
+    (omega (arith, ltb-false (length_in c.args.work.now c.args.r) c.args.pattern.size (sym c.is_shorter.ensures ∙ c.if-is_shorter.false), c.if-pattern-lt2.false))
     ∙ ap₂ {C = Rule} (λ u v. Pair u v) (sym c.left_in-u.ensures) (sym c.right_in-v.ensures)
 
 known : (c : After-right_in-v) → let a = c.args in
@@ -62,7 +62,7 @@ known c = pair_known c.requires.0 c.left_in-u.result c.right_in-v.result (is_pai
 pub test_join-joined-requires : goal.test_join-joined-requires
 test_join-joined-requires c =
     let h = c.requires.0 in
-    (h.counting.tried, c.requires.1, omega (arith, (known (goal.at.test_join-joined-requires c).After-right_in-v).inside, c.place_of-at.ensures, c.length_of-right.ensures, c.length_of-left.ensures), (turn_known h).long, c.requires.2)
+    (c.requires.1, omega (arith, (known (goal.at.test_join-joined-requires c).After-right_in-v).inside, c.place_of-at.ensures, c.length_of-right.ensures, c.length_of-left.ensures), (turn_known h).long)
 
 packed_small : (x : ℕ) → x / PACK ≡ min 1 (x % PACK) → x < 2 * PACK
 packed_small x e = omega arith
@@ -78,7 +78,7 @@ returns c h =
     let packed = c.test_join-joined.ensures.0 in (
       pair_found h c.left_in-u.result c.right_in-v.result (is_pair_lem (goal.at.returns c).After-right_in-v) c.place_of-at.result c.length_of-left.result c.length_of-right.result (x % PACK) c.found.result
           c.place_of-at.ensures c.length_of-left.ensures c.length_of-right.ensures packed.cut (omega (arith, c.found.ensures.0, packed.number)) c.found.ensures.1,
-      pair_tests h c.left_in-u.result c.right_in-v.result (is_pair_lem (goal.at.returns c).After-right_in-v) c.length_of-left.result c.length_of-right.result _ c.test_join-joined.result.tests
+      pair_tests h c.left_in-u.result c.right_in-v.result (is_pair_lem (goal.at.returns c).After-right_in-v) c.length_of-left.result c.length_of-right.result c.test_join-joined.result.tests
           c.length_of-left.ensures c.length_of-right.ensures c.test_join-joined.ensures.1,
     )
 

@@ -22,18 +22,18 @@ bounds-work-8960 c = omega (arith, (turn_known c.requires.one.turn).long)
 here : (w : List ℕ) (r x : ℕ) → x ≡ place_in w r → get_or w x 0 ≡ get_or w (place_in w r) 0
 here w r x e = ap (λ (j : ℕ). get_or w j 0) e
 
-pub returns-then-a-work : goal.returns-then-a-work
-returns-then-a-work c h =
+pub returns-then-work-place_of : goal.returns-then-work-place_of
+returns-then-work-place_of c h =
     let a = c.args in
     symbol_found h PACK true
-    (eq-eqb (get_or a.work.now PATTERN 0) (get_or a.work.now (place_in a.work.now a.r) 0) (sym c.if-a-work.true ∙ here a.work.now a.r c.place_of.result c.place_of.ensures)) refl refl
+    (eq-eqb (get_or a.work.now PATTERN 0) (get_or a.work.now (place_in a.work.now a.r) 0) (sym c.if-work-place_of.true ∙ here a.work.now a.r c.place_of.result c.place_of.ensures)) refl refl
 
-pub returns : goal.returns
-returns c h =
+pub returns-else-work-place_of : goal.returns-else-work-place_of
+returns-else-work-place_of c h =
     let a = c.args in
     symbol_found h 0 false
     (ne_eqb (get_or a.work.now PATTERN 0) (get_or a.work.now (place_in a.work.now a.r) 0)
-    (λ z. c.if-a-work.false (here a.work.now a.r c.place_of.result c.place_of.ensures ∙ sym z))) refl refl
+    (λ z. c.if-work-place_of.false (here a.work.now a.r c.place_of.result c.place_of.ensures ∙ sym z))) refl refl
 
 pub place_of-requires : goal.place_of-requires
 place_of-requires c = turn_known c.requires.one.turn

@@ -2,7 +2,6 @@
 use Prim.Native.Nat.{◌<◌}
 use native.Mathlib.Omega.{arith}
 use native.Mathlib.Nat.{div-eq_of_lt, div-le_self}
-use borrow.Author.Rules.{rules}
 use Rattle.runs.proofs.copies.Goals as goal
 
 pub returns-then-more-word : goal.returns-then-more-word

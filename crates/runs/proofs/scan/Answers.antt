@@ -2,14 +2,8 @@
 -- them, are a Lyndon word.
 use mathlib.Core.Path.{refl}
 use mathlib.Core.Bool.{false}
-use mathlib.Core.List.{map}
-use Prim.Native.Nat.{◌+◌, ◌-◌}
 use native.Mathlib.Omega.{arith}
-use lib.ListN.{length}
-use borrow.Author.Rules.{rules}
 use borrow.Author.Tests.{not-true, not-false}
-use Rattle.definitions.specs.Table.{rank_of}
-use Rattle.runs.specs.Runs.{Running}
 use Rattle.runs.proofs.Samples.{samples_first, samples_alike, samples_unlike, samples_ended, samples_empty, samples_within, samples_stopped, samples_grown}
 use Rattle.runs.proofs.scan.Goals as goal
 
@@ -38,7 +32,7 @@ pub returns-then-not-grows : goal.returns-then-not-grows
 returns-then-not-grows c =
     let a = c.args in
     let r = c.run_of.result in
-    samples_stopped a.order a.pattern.now a.start c.loop-word.word c.loop-word.invariant c.first_difference-d.result c.first_difference-d.ensures (λ j h. omega (arith, c.shared_slice_known-1.given j))
+    samples_stopped a.order a.pattern.now a.start c.loop-word.word c.loop-word.invariant c.first_difference-d.result c.first_difference-d.ensures (λ j h. omega (arith, c.type_inv.pattern j))
     c.grows.result c.grows.ensures (not-true c.grows.result c.if-not-grows.true-raw) r.start r.back r.end r.next c.run_of.ensures
 
 pub overflow_add-word : goal.overflow_add-word
@@ -54,7 +48,7 @@ overflow_add-word-then-x-y c =
 pub loop-word-preserved-then-x-y : goal.loop-word-preserved-then-x-y
 loop-word-preserved-then-x-y c =
     let a = c.args in
-    samples_grown a.order a.pattern.now a.start c.loop-word.word c.loop-word.invariant c.first_difference-d.result c.first_difference-d.ensures (λ j h. omega (arith, c.shared_slice_known-1.given j))
+    samples_grown a.order a.pattern.now a.start c.loop-word.word c.loop-word.invariant c.first_difference-d.result c.first_difference-d.ensures (λ j h. omega (arith, c.type_inv.pattern j))
     c.grows.result c.grows.ensures (not-false c.grows.result c.if-not-grows.false-raw)
 
 -- ---- they differ
@@ -64,14 +58,14 @@ returns-then-not-grows-2 c =
     let a = c.args in
     let r = c.run_of-then-not-grows-2.result in
     let e = samples_unlike a.order a.pattern.now a.start c.loop-word.word c.loop-word.invariant c.if-x-y.false in
-    samples_stopped a.order a.pattern.now a.start c.loop-word.word c.loop-word.invariant 0 e (λ j h. omega (arith, c.shared_slice_known-1.given j))
+    samples_stopped a.order a.pattern.now a.start c.loop-word.word c.loop-word.invariant 0 e (λ j h. omega (arith, c.type_inv.pattern j))
     c.grows-else-x-y.result c.grows-else-x-y.ensures (not-true c.grows-else-x-y.result c.if-not-grows-2.true-raw) r.start r.back r.end r.next c.run_of-then-not-grows-2.ensures
 
 pub loop-word-preserved : goal.loop-word-preserved
 loop-word-preserved c =
     let a = c.args in
     let e = samples_unlike a.order a.pattern.now a.start c.loop-word.word c.loop-word.invariant c.if-x-y.false in
-    samples_grown a.order a.pattern.now a.start c.loop-word.word c.loop-word.invariant 0 e (λ j h. omega (arith, c.shared_slice_known-1.given j))
+    samples_grown a.order a.pattern.now a.start c.loop-word.word c.loop-word.invariant 0 e (λ j h. omega (arith, c.type_inv.pattern j))
     c.grows-else-x-y.result c.grows-else-x-y.ensures (not-false c.grows-else-x-y.result c.if-not-grows-2.false-raw)
 
 -- ---- nothing stands behind the word
@@ -88,5 +82,5 @@ returns c =
     let r = c.run_of-2.result in
     let e = samples_ended a.order a.pattern.now a.start c.loop-word.word c.loop-word.invariant c.loop-word-test.false in
     let n = samples_empty a.order a.pattern.now a.start c.loop-word.word c.loop-word.invariant c.loop-word-test.false in
-    samples_stopped a.order a.pattern.now a.start c.loop-word.word c.loop-word.invariant 0 e (λ j h. omega (arith, c.shared_slice_known-1.given j))
+    samples_stopped a.order a.pattern.now a.start c.loop-word.word c.loop-word.invariant 0 e (λ j h. omega (arith, c.type_inv.pattern j))
     false n refl r.start r.back r.end r.next c.run_of-2.ensures

@@ -1,16 +1,10 @@
 -- `scan` lets a word grow as long as the later tail has the greater sample at the first difference. The loop's invariant: the samples from `start` on, `word` of
 -- them, are a Lyndon word.
-use mathlib.Core.Path.{refl}
-use mathlib.Core.Bool.{false}
 use mathlib.Core.List.{map}
 use Prim.Native.Nat.{◌+◌, ◌-◌}
-use native.Mathlib.Omega.{arith}
 use lib.ListN.{length}
-use borrow.Author.Rules.{rules}
-use borrow.Author.Tests.{not-true, not-false}
 use Rattle.definitions.specs.Table.{rank_of}
 use Rattle.runs.specs.Runs.{Running}
-use Rattle.runs.proofs.Samples.{samples_first, samples_alike, samples_unlike, samples_ended, samples_empty, samples_within, samples_stopped, samples_grown}
 use Rattle.runs.proofs.scan.Given as goal
 
 abbrev pub invariant-loop-word : goal.invariant-loop-word

@@ -1,30 +1,33 @@
 -- `count_rules` counts rule after rule. The loop's invariant: whatever text is loaded, the rules before r are counted, by so many tests; the cuts stay as they are.
-use mathlib.Core.Path.{refl, sym, ◌∙◌}
-use Prim.Native.Nat.{ℕ, ◌<◌}
+use mathlib.Core.Path.{sym, ◌∙◌, ap}
+use Prim.Native.Nat.{ℕ, ◌+◌, ◌<◌}
 use native.Mathlib.Omega.{arith}
 use Rattle.lyndon.specs.Stored.{rule_range}
-use Rattle.rule_finds.proofs.Counting.{counted_none, counted_turn, counted_end, few_tests, longest_kept}
-use Rattle.search.proofs.count_rules.Goals.{Start}
+use Rattle.rule_finds.proofs.Counting.{Counted, counted_none, counted_turn, counted_end, few_tests, longest_kept}
+use Rattle.search.proofs.count_rules.Goals.{Start, After-put}
 use Rattle.search.proofs.count_rules.Goals as goal
 
 -- rule r of those that are counted
 low : (s : Start) (r : ℕ) → r < s.args.rules → r < 2304
-low s r l = let h = s.requires in omega (arith, h.size, rule_range h.order h.text h.chair h.counting.loaded.kept.stored)
+low s r l = let h = s.requires.0 in omega (arith, h.size, rule_range h.order h.text h.chair h.counting.loaded.kept.stored)
 
-pub found_in-x-requires : goal.found_in-x-requires
-found_in-x-requires c =
-    let h = c.requires in
-    let a = c.args in (
+pub loop-r-init : goal.loop-r-init
+loop-r-init c = let a = c.args in (counted_none a.pattern.size a.pattern.cuts a.rules a.work.now, c.requires.1.longest)
+
+pub found_in-tested-requires : goal.found_in-tested-requires
+found_in-tested-requires c =
+    let h = c.requires.0 in
+    let a = c.args in
+    let counting = (c.loop-r.invariant.0 h.order h.samples h.text h.chair h.counting h.size).0 in (
       record {
         order = h.order;
         samples = h.samples;
         text = h.text;
         chair = h.chair;
-        counting = (c.loop-r.invariant.2 h.order h.samples h.text h.chair h.counting h.size).0;
+        counting = counting;
         low = omega (arith, h.size, c.loop-r-test.true);
       },
-      c.loop-r.invariant.3,
-      omega (arith, few_tests a.m a.n a.rules c.loop-r.r c.loop-r.tests a.work.now c.loop-r.work h c.loop-r.invariant.2, low (goal.at.found_in-x-requires c).Start c.loop-r.r c.loop-r-test.true),
+      record { tried = counting.tried; longest = c.loop-r.invariant.1 },
     )
 
 pub overflow_add-r : goal.overflow_add-r
@@ -33,29 +36,32 @@ overflow_add-r c =
 
 pub put-requires : goal.put-requires
 put-requires c =
-    omega (arith, low (goal.at.put-requires c).Start c.loop-r.r c.loop-r-test.true, c.loop-r.invariant.1, c.requires.counting.loaded.kept.long)
+    omega (arith, low (goal.at.put-requires c).Start c.loop-r.r c.loop-r-test.true, c.loop-r.auto.work, c.requires.0.counting.loaded.kept.long)
+
+-- one rule more is counted, by so many tests more
+more : (k : After-put) → let a = k.args in
+    Counted a.pattern.size a.pattern.cuts a.rules (k.loop-r.r + 1) (k.loop-r.tests + k.found_in-tested.result.tests) a.work.now k.put.new.s
+more k =
+    let a = k.args in
+    counted_turn a.pattern.size a.pattern.cuts a.rules k.loop-r.r k.loop-r.tests _ a.work.now k.loop-r.work k.put.new.s k.found_in-tested.result.found
+    k.loop-r-test.true k.loop-r.invariant.0 (λ h. let (found, tests) = k.found_in-tested.ensures h in (found, ap (λ (n : ℕ). k.loop-r.tests + n) tests)) k.put.ensures
+
+pub overflow_add-tests : goal.overflow_add-tests
+overflow_add-tests c =
+    let a = c.args in
+    let k = goal.at.overflow_add-tests c in
+    omega (arith, low k.Start c.loop-r.r c.loop-r-test.true, few_tests a.pattern.size a.pattern.cuts a.rules (c.loop-r.r + 1) _ a.work.now c.put.new.s c.requires.0 (more k.After-put))
 
 pub loop-r-preserved : goal.loop-r-preserved
 loop-r-preserved c =
     let a = c.args in
-    let x = c.found_in-x.result.found in (
-      omega (arith, c.loop-r-test.true),
-      c.put.auto.s ∙ c.loop-r.invariant.1,
-      counted_turn a.m a.n a.rules c.loop-r.r c.loop-r.tests c.found_in-x.result.tests a.work.now c.loop-r.work c.put.new.s x
-          c.loop-r-test.true c.loop-r.invariant.2 c.found_in-x.ensures c.put.ensures,
-      c.loop-r.invariant.3 ∙ sym (longest_kept a.m a.n c.loop-r.r c.loop-r.work c.put.new.s x (low (goal.at.loop-r-preserved c).Start c.loop-r.r c.loop-r-test.true) c.put.ensures),
+    let k = goal.at.loop-r-preserved c in (
+      more k.After-put,
+      c.loop-r.invariant.1
+          ∙ sym (longest_kept a.pattern.size a.pattern.cuts c.loop-r.r c.loop-r.work c.put.new.s c.found_in-tested.result.found (low k.Start c.loop-r.r c.loop-r-test.true) c.put.ensures),
     )
 
 pub returns : goal.returns
 returns c =
     let a = c.args in
-    counted_end a.m a.n a.rules c.loop-r.r c.loop-r.tests a.work.now c.loop-r.work (omega (arith, c.loop-r.invariant.0, c.loop-r-test.false)) c.loop-r.invariant.2
-
-pub longest_tail-longest-requires : goal.longest_tail-longest-requires
-longest_tail-longest-requires c = let h = c.requires.counting in (h.tried, h.loaded.kept.long)
-
-pub loop-r-init : goal.loop-r-init
-loop-r-init c = let a = c.args in (omega arith, refl, counted_none a.m a.n a.rules a.work.now, c.longest_tail-longest.ensures)
-
-pub shape_of-work : goal.shape_of-work
-shape_of-work c = c.loop-r.invariant.1
+    counted_end a.pattern.size a.pattern.cuts a.rules c.loop-r.r c.loop-r.tests a.work.now c.loop-r.work (omega arith) c.loop-r.invariant.0

@@ -1,7 +1,6 @@
 -- `live_cuts` is refused by the pattern, or decided by delivering its listed cuts.
 use mathlib.Core.Path.{refl}
 use lib.ListN.{length}
-use borrow.Author.Rules.{rules}
 use Rattle.definitions.specs.Services.{pattern_checks, cuts_service}
 use Rattle.lists.specs.Decisions.{done_all}
 use Rattle.lists.specs.Serving.{answer_refuses, refused_front, passed}
@@ -17,10 +16,10 @@ returns-in_default c =
 pub deliver_cuts-requires : goal.deliver_cuts-requires
 deliver_cuts-requires c =
     let p = c.args.pattern.now in
-    passed_pattern p (done_all (pattern_checks p) (length p) c.pattern_fits-p.ensures c.in-Done.is).0
+    passed_pattern p (done_all (pattern_checks p) (length p) c.pattern_fits-p.ensures c.in-Ok.is).0
 
 pub returns : goal.returns
 unfolding cuts_service
 returns c =
     let p = c.args.pattern.now in
-    passed (done_all (pattern_checks p) (length p) c.pattern_fits-p.ensures c.in-Done.is).0 c.deliver_cuts.ensures
+    passed (done_all (pattern_checks p) (length p) c.pattern_fits-p.ensures c.in-Ok.is).0 c.deliver_cuts.ensures

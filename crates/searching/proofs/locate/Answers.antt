@@ -4,7 +4,6 @@ use mathlib.Core.List.{List, [], ◌∷◌}
 use Prim.Native.Nat.{ℕ}
 use native.Mathlib.Omega.{arith}
 use lib.ListN.{length}
-use borrow.Author.Rules.{rules}
 use Rattle.definitions.specs.Table.{text_of}
 use Rattle.definitions.specs.Occurrences.{tests}
 use Rattle.definitions.specs.Steps.{searched, finds}
@@ -13,8 +12,8 @@ use Rattle.lists.specs.Decisions.{Passed, done_all}
 use Rattle.lists.specs.Serving.{grouped, refused_front, passed}
 use Rattle.checks.proofs.Patterns.{search_keeps, passed_search}
 use Rattle.results.proofs.Answers.{search_refuses}
-use Rattle.opening.proofs.Services.{ready, opened_table, opening_refused, Succeeded, opening_done, opened_ready, opening_lent}
-use Rattle.searching.proofs.locate.Goals.{After-admit-a, In-Done-a}
+use Rattle.opening.proofs.Services.{opened_table, opening_refused, Succeeded, opening_done, opened_held, opening_lent}
+use Rattle.searching.proofs.locate.Goals.{After-admit-a, In-Ok-a}
 use Rattle.searching.proofs.locate.Goals as goal
 
 pub returns-in_default : goal.returns-in_default
@@ -29,7 +28,7 @@ returns-in_default c =
 accepted : (m : After-admit-a) → let a = m.args in Passed (search_checks a.content a.pattern.now)
 accepted m =
     let a = m.args in
-    (done_all (search_checks a.content a.pattern.now) (length a.pattern.now) m.search_fits-p.ensures m.in-Done.is).0
+    (done_all (search_checks a.content a.pattern.now) (length a.pattern.now) m.search_fits-p.ensures m.in-Ok.is).0
 
 pub returns-in_default-a : goal.returns-in_default-a
 unfolding locate_service
@@ -39,31 +38,30 @@ returns-in_default-a c =
     (passed (accepted (goal.at.returns-in_default-a c).After-admit-a) (opening_refused _ c.admit-a.ensures c.in_default-a.is (search_refuses c.admit-a.result c.with_tests-in_default-a.result c.with_tests-in_default-a.ensures) (λ d. refl)))
 
 -- and the table opened
-succeeded : (k : In-Done-a) → let a = k.args in
-    Succeeded sample_order a.table.now a.work.now k.admit-a.new.work k.in-Done-a.rules
-succeeded k = opening_done k.admit-a.ensures k.in-Done-a.is
+succeeded : (k : In-Ok-a) → let a = k.args in
+    Succeeded sample_order a.table.now a.work.now k.admit-a.new.work k.in-Ok-a.rules
+succeeded k = opening_done k.admit-a.ensures k.in-Ok-a.is
 
 pub slice_bounds-locate_loaded-end : goal.slice_bounds-locate_loaded-end
-slice_bounds-locate_loaded-end c = omega (arith, (succeeded (goal.at.slice_bounds-locate_loaded-end c).In-Done-a).loads.long)
+slice_bounds-locate_loaded-end c = omega (arith, (succeeded (goal.at.slice_bounds-locate_loaded-end c).In-Ok-a).loads.long)
 
 pub locate_loaded-b-requires : goal.locate_loaded-b-requires
 locate_loaded-b-requires c =
     let a = c.args in
     let (some, short) = passed_search a.content a.pattern.now (accepted (goal.at.locate_loaded-b-requires c).After-admit-a) in
-    let (loaded, ordered, size) = opened_ready (succeeded (goal.at.locate_loaded-b-requires c).In-Done-a) in
-    record { ready = loaded; ordered = ordered; size = size; filled = some; short = short }
+    record { held = opened_held (succeeded (goal.at.locate_loaded-b-requires c).In-Ok-a); filled = some; short = short }
 
 pub clear_front-requires : goal.clear_front-requires
-clear_front-requires c = omega (arith, (succeeded (goal.at.clear_front-requires c).In-Done-a).loads.long)
+clear_front-requires c = omega (arith, (succeeded (goal.at.clear_front-requires c).In-Ok-a).loads.long)
 
 pub returns : goal.returns
-unfolding locate_service ready
+unfolding locate_service opened_held
 returns c =
     let a = c.args in
     let p = a.pattern.now in
-    let x = succeeded (goal.at.returns c).In-Done-a in
+    let x = succeeded (goal.at.returns c).In-Ok-a in
     grouped (search_checks a.content p) _ _
     (passed (accepted (goal.at.returns c).After-admit-a)
     (opening_lent x (refl, refl) c.locate_loaded-b.new.work c.locate_loaded-b.auto.work c.clear_front.ensures
     (subst (λ (t : List ℕ). Serves (writes [] (finds a.content p (text_of sample_order a.table.now)) (length (tests sample_order t (searched a.content p))) a.res.now) (Searches c.locate_loaded-b.result) (c.locate_loaded-b.new.res ∷ []))
-    (opened_table x.loads) (c.locate_loaded-b.ensures (ready x.loads) refl x.rules))))
+    (opened_table x.loads) (c.locate_loaded-b.ensures (opened_held x)))))

@@ -5,19 +5,21 @@ use Prim.Native.Nat.{ℕ}
 use native.Mathlib.Omega.{arith}
 use lib.ListN.{length}
 use Rattle.definitions.specs.Words.{placed}
-use Rattle.spelling.proofs.Texts.{loaded_length, root_spelled}
+use Rattle.state.proofs.Lengths.{rules_range}
+use Rattle.spelling.proofs.Texts.{root_spelled}
 use Rattle.spelling.proofs.spell_text.Goals as goal
 
-pub overflow_sub-rules : goal.overflow_sub-rules
-overflow_sub-rules c = omega (arith, loaded_length c.args.work.now c.requires.0 c.args.rules c.requires.2)
+pub overflow_sub-loaded : goal.overflow_sub-loaded
+overflow_sub-loaded c = omega (arith, rules_range c.args.loaded.now.held)
 
 pub spell-requires : goal.spell-requires
 spell-requires c =
-    let (mark, bytes) = root_spelled c.args.work.now c.requires.0 c.args.rules c.requires.2 in
-    (c.requires.0, c.requires.1, mark, omega (arith, ap length bytes, c.requires.3))
+    let a = c.args in
+    let (mark, bytes) = root_spelled a.loaded.now.held in
+    (a.loaded.now.rules, a.loaded.now.held, mark, omega (arith, ap length bytes, c.requires))
 
 pub returns : goal.returns
-returns c h e n =
+returns c =
     let a = c.args in
-    let (mark, bytes) = root_spelled a.work.now h a.rules n in
-    (c.spell.ensures h e mark).front ∙ ap (λ (l : List ℕ). placed l a.res.now) bytes
+    let (mark, bytes) = root_spelled a.loaded.now.held in
+    (c.spell.ensures a.loaded.now.rules a.loaded.now.held mark).front ∙ ap (λ (l : List ℕ). placed l a.res.now) bytes

@@ -1,15 +1,11 @@
 -- `write_samples` places the bytes of ranks at the front of a slice. The invariant: those of the ranks passed stand there.
 use mathlib.Core.Path.{◌≡◌}
 use mathlib.Core.List.{map}
-use Prim.Native.Nat.{◌≤◌, ◌-◌}
-use lib.ListN.{length, take}
+use lib.ListN.{take}
 use Rattle.definitions.specs.Words.{placed}
 use Rattle.definitions.specs.Table.{byte_of}
 use Rattle.definitions.specs.Services.{sample_order}
 use Rattle.spelling.proofs.write_samples.Given as goal
 
 abbrev pub invariant-loop-i : goal.invariant-loop-i
-invariant-loop-i l = (l.i ≤ length l.ranks) × (length l.res ≡ length l.initial.res) × (l.res ≡ placed (map (byte_of sample_order) (take l.i l.ranks)) l.initial.res)
-
-abbrev pub decreases-loop-i : goal.decreases-loop-i
-decreases-loop-i l = length l.ranks - l.i
+invariant-loop-i l = l.res ≡ placed (map (byte_of sample_order) (take l.i l.ranks)) l.initial.res

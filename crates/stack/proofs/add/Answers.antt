@@ -1,5 +1,4 @@
 -- `add` stores the words and links the rule.
-use borrow.Author.Rules.{rules}
 use Rattle.stack.specs.Areas.{added}
 use Rattle.stack.proofs.add.Goals as goal
 

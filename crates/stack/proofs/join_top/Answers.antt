@@ -1,6 +1,5 @@
 -- `join_top` pushes the pair of the two rules on top in their place.
 use mathlib.Core.Path.{subst}
-use borrow.Author.Rules.{rules}
 use native.Mathlib.Omega.{arith}
 use Rattle.definitions.specs.declared.Order.{Order}
 use Rattle.lyndon.specs.Closings.{State, push}

@@ -1,5 +1,4 @@
 -- `look_up` finds a rule in the table area by the links.
-use borrow.Author.Rules.{rules}
 use native.Mathlib.Omega.{arith}
 use lib.ListN.{length-take, length-drop}
 use Rattle.lists.specs.Parts.{part}

@@ -1,5 +1,5 @@
 -- `sample_before` reads the entry before; before the first stands 0.
-use Rattle.std.proofs.Common.{◌≡◌, ℕ, zero, suc, ◌-◌, List, ◌∷◌, get_or, refl, arith, rules}
+use Rattle.std.proofs.Common.{◌≡◌, ℕ, zero, suc, ◌-◌, List, ◌∷◌, get_or, refl, arith}
 use Rattle.steps.proofs.sample_before.Goals as goal
 
 first : (x : List ℕ) (i : ℕ) → i ≡ 0 → 0 ≡ get_or (0 ∷ x) i 0
@@ -10,10 +10,7 @@ later x zero h = absurd (h refl)
 later x (suc i) h = let e : suc i - 1 ≡ i = omega arith in rw e refl
 
 pub returns-then-i-eq0 : goal.returns-then-i-eq0
-returns-then-i-eq0 c = let a = c.args in first a.text.now a.i c.if-i-eq0.true
+returns-then-i-eq0 c = first c.args.text.now c.args.i c.if-i-eq0.true
 
-pub returns : goal.returns
-returns c = let a = c.args in later a.text.now a.i c.if-i-eq0.false
-
-pub bounds-text-i : goal.bounds-text-i
-bounds-text-i c = omega (arith, c.requires)
+pub returns-else-i-eq0 : goal.returns-else-i-eq0
+returns-else-i-eq0 c = later c.args.text.now c.args.i c.if-i-eq0.false

@@ -1,8 +1,6 @@
 -- `judge` refuses where a pass does, and else keeps what the passes leave.
 use mathlib.Core.Path.{◌≡◌}
 use mathlib.Core.Bool.{true}
-use borrow.Author.Rules.{rules}
-use borrow.Author.Tests.{not-true, not-false}
 use Rattle.twins.proofs.Looking.{only_mark}
 use Rattle.tables.specs.Loading.{Spelled}
 use Rattle.tables.proofs.Loading.{refused}

@@ -3,8 +3,6 @@ use mathlib.Core.Path.{refl}
 use Prim.Native.Nat.{◌≤◌, ◌<◌}
 use native.Mathlib.Omega.{arith}
 use lib.ListN.{length-take, length-drop}
-use borrow.Author.Rules.{rules}
-use borrow.Author.Tests.{not-true, not-false}
 use Rattle.definitions.specs.Table.{rule_count}
 use Rattle.tables.proofs.Loading.{front_size, front_filled, unmarked, marked_sound, kept_loaded, refused, accepted}
 use Rattle.tables.proofs.keep.Goals.{Start}

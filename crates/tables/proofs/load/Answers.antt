@@ -1,6 +1,4 @@
 -- `load` refuses where two rules are alike, and else judges on.
-use borrow.Author.Rules.{rules}
-use borrow.Author.Tests.{not-true, not-false}
 use Rattle.tables.proofs.Loading.{refused}
 use Rattle.tables.proofs.load.Goals as goal
 

@@ -1,17 +1,12 @@
 -- `first_difference` goes up to the first difference. The loop's invariant: that is not before i, nor behind the shorter tail's end.
-use Prim.Native.Nat.{◌≤◌}
 use native.Mathlib.Omega.{arith}
 use Rattle.lists.specs.FirstDifference.{difference_left, difference_right, difference_most, difference_further}
 use Rattle.tails.proofs.first_difference.Goals as goal
-use Rattle.tails.proofs.first_difference.Goals.{then-m-n, else-m-n}
 
 pub loop-i-init : goal.loop-i-init
 loop-i-init c =
     let a = c.args in
-    elim c.if-m-n.branch [
-      | then-m-n w ↦ omega (arith, w.if-m-n.true, w.short-is, c.requires, difference_left a.x.now a.y.now)
-      | else-m-n w ↦ omega (arith, w.if-m-n.false, w.short-is, c.requires, difference_right a.x.now a.y.now)
-    ]
+    omega (arith, c.min-short.ensures, c.requires, difference_left a.x.now a.y.now, difference_right a.x.now a.y.now)
 
 pub loop-i-preserved : goal.loop-i-preserved
 loop-i-preserved c =

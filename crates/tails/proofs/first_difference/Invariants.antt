@@ -1,10 +1,7 @@
 -- `first_difference` goes up to the first difference. The loop's invariant: that is not before i, nor behind the shorter tail's end.
-use mathlib.Core.Logic.{⊎_elim}
 use Prim.Native.Nat.{◌-◌, ◌≤◌}
-use native.Mathlib.Omega.{arith}
 use lib.ListN.{length}
 use Rattle.definitions.specs.Words.{first_difference}
-use Rattle.lists.specs.FirstDifference.{difference_left, difference_right, difference_most, difference_further}
 use Rattle.tails.proofs.first_difference.Given as goal
 
 abbrev pub invariant-loop-i : goal.invariant-loop-i

@@ -1,7 +1,6 @@
 -- `is_distinct` wants the mark first, clears the buckets, and has every rule looked up.
 use mathlib.Core.Path.{refl}
 use native.Mathlib.Omega.{arith}
-use borrow.Author.Rules.{rules}
 use Rattle.lists.specs.Bools.{contra}
 use Rattle.twins.proofs.Looking.{no_mark, linked_none}
 use Rattle.twins.proofs.is_distinct.Goals as goal
