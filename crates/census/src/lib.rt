@@ -39,10 +39,7 @@ pub fn census(
 fn window_fits(q: usize) -> Answer
     ensures { outcome_of result ≡ checked (odd_window q) q }
 {
-    if q < 1 {
-        return Err(Refusal::OddWindow);
-    }
-    if 8 < q {
+    if q < 1 || 8 < q {
         return Err(Refusal::OddWindow);
     }
     Ok(q)

@@ -29,7 +29,7 @@ pub fn answer(input: &[u8], out: &mut [u8]) -> usize
 }
 
 // The same, once the drive's table is built.
-fn answer_built<'a>(input: &'a [u8], table: &'a [u32], out: &mut [u8]) -> usize
+fn answer_built(input: &[u8], table: &[u32], out: &mut [u8]) -> usize
     requires { Built input.now table.now × (75744 ≤ length out.old) }
     ensures value { result ≡ length (window_output sample_order input.now) }
     ensures out_after { out.new ≡ placed (window_output sample_order input.now) out.old }
@@ -63,7 +63,7 @@ fn drive_start(input: &[u8]) -> usize
 }
 
 // Lists the runs of the drive, whose table is handed over, and their counts. Refuses by 13.
-fn count_runs<'a>(input: &'a [u8], table: &'a [u32], runs: &mut [u8], counts: &mut [u32]) -> Answer
+fn count_runs(input: &[u8], table: &[u32], runs: &mut [u8], counts: &mut [u32]) -> Answer
     requires { Built input.now table.now × (16376 ≤ length runs.old) × (2047 ≤ length counts.old) }
     ensures { Serves (window_step sample_order input.now runs.old counts.old) (Answers result) (runs.new ∷ counts.new ∷ []) }
 {
@@ -81,7 +81,7 @@ fn window(input: &[u8]) -> usize
 }
 
 // The lines of success: each run with its count, and the sum of the counts.
-fn put_report<'a>(q: usize, runs: &'a [u8], counts: &'a [u32], out: &mut [u8]) -> usize
+fn put_report(q: usize, runs: &[u8], counts: &[u32], out: &mut [u8]) -> usize
     requires { Tallied q runs.now counts.now × ((4 * q + 5) * length counts.now + 11 ≤ length out.old) }
     ensures value { result ≡ length (report q runs.now counts.now) }
     ensures out_after { out.new ≡ placed (report q runs.now counts.now) out.old }
@@ -92,7 +92,7 @@ fn put_report<'a>(q: usize, runs: &'a [u8], counts: &'a [u32], out: &mut [u8]) -
 }
 
 // A line for each run and its count.
-fn put_tallies<'a>(q: usize, runs: &'a [u8], counts: &'a [u32], out: &mut [u8]) -> usize
+fn put_tallies(q: usize, runs: &[u8], counts: &[u32], out: &mut [u8]) -> usize
     requires { Tallied q runs.now counts.now × ((4 * q + 5) * length counts.now + 11 ≤ length out.old) }
     ensures value { result ≡ length (tallies q runs.now counts.now) }
     ensures out_after { out.new ≡ placed (tallies q runs.now counts.now) out.old }

@@ -45,7 +45,7 @@ fn try_drive(to: Stdout, q: usize, drive: &[u8]) {
 }
 
 // Takes the census of a table.
-fn try_table<'a>(to: Stdout, q: usize, table: &'a [u32], drive: &'a [u8]) {
+fn try_table(to: Stdout, q: usize, table: &[u32], drive: &[u8]) {
     let mut work = [7u32; 16384];
     let mut runs = [7u8; 512];
     let mut counts = [7u32; 64];
@@ -56,7 +56,7 @@ fn try_table<'a>(to: Stdout, q: usize, table: &'a [u32], drive: &'a [u8]) {
 }
 
 // Prints a census, and whether the naive sides say the same.
-fn print_census<'a>(to: Stdout, q: usize, runs: &'a [u8], counts: &'a [u32], drive: &'a [u8])
+fn print_census(to: Stdout, q: usize, runs: &[u8], counts: &[u32], drive: &[u8])
     requires { length counts.now ≤ 64 }
 {
     print_number(to, b" runs ", counts.len());
@@ -70,7 +70,7 @@ fn print_census<'a>(to: Stdout, q: usize, runs: &'a [u8], counts: &'a [u32], dri
 }
 
 // Prints each run and its count.
-fn print_runs<'a>(to: Stdout, q: usize, runs: &'a [u8], counts: &'a [u32])
+fn print_runs(to: Stdout, q: usize, runs: &[u8], counts: &[u32])
     requires { 0 < q }
 {
     for (run, count) in runs.chunks_exact(q).zip(counts) {
@@ -88,7 +88,7 @@ fn print_samples(to: Stdout, run: &[u8]) {
 }
 
 // Whether the naive sides say that these runs and counts are the census of the drive.
-fn is_census<'a>(q: usize, runs: &'a [u8], counts: &'a [u32], drive: &'a [u8]) -> bool
+fn is_census(q: usize, runs: &[u8], counts: &[u32], drive: &[u8]) -> bool
     requires { (0 < q) × (q ≤ 8) × (length counts.now ≤ 64) }
 {
     if 63 < drive.len() {
@@ -111,7 +111,7 @@ fn rise(q: usize, n: usize, runs: &[u8]) -> bool
 }
 
 // Whether each run begins in the drive as often as its count says.
-fn all_agree<'a>(q: usize, runs: &'a [u8], counts: &'a [u32], drive: &'a [u8]) -> bool
+fn all_agree(q: usize, runs: &[u8], counts: &[u32], drive: &[u8]) -> bool
     requires { (0 < q) × (length drive.now ≤ 63) }
 {
     runs.chunks_exact(q)
@@ -120,7 +120,7 @@ fn all_agree<'a>(q: usize, runs: &'a [u8], counts: &'a [u32], drive: &'a [u8]) -
 }
 
 // Whether the naive side finds a run so often in the drive.
-fn agrees<'a>(run: &'a [u8], count: usize, drive: &'a [u8]) -> bool
+fn agrees(run: &[u8], count: usize, drive: &[u8]) -> bool
     requires { length drive.now ≤ 63 }
 {
     let mut places = [7u32; 64];

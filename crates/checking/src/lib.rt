@@ -50,7 +50,7 @@ fn profile_loaded(loaded: &LoadedText<'_>) -> Answer
 {
     let n = loaded.len();
     let mut text = [0u8; 2047];
-    write_part(loaded, 0, n, &mut text);
+    write_part(0, n, loaded.work, &mut text);
     profile_fits(&text[0..n])
 }
 

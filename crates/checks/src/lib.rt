@@ -36,7 +36,7 @@ pub fn pattern_fits(pattern: &[u8]) -> Answer
 fn samples_fit(pattern: &[u8]) -> Answer
     ensures { outcome_of result ≡ checked (pattern_empty pattern.now) (length pattern.now) }
 {
-    if pattern.is_empty() {
+    if pattern.len() == 0 {
         Err(Refusal::PatternEmpty)
     } else {
         Ok(pattern.len())

@@ -37,7 +37,7 @@ pub fn rest_before(s: &[u32], i: usize, j: usize, k: usize) -> bool
 }
 
 // Whether the string x is smaller than the string y.
-fn smaller<'a>(x: &'a [u32], y: &'a [u32]) -> bool
+fn smaller(x: &[u32], y: &[u32]) -> bool
     ensures { result ≡ lexlt x.now y.now }
 {
     let short = x.len().min(y.len());
@@ -49,7 +49,7 @@ fn smaller<'a>(x: &'a [u32], y: &'a [u32]) -> bool
 }
 
 // How many of the first blocks of eight symbols are passed, which is a matter of speed: what follows them decides. The loop stops at the first that is not alike.
-fn alike<'a>(x: &'a [u32], y: &'a [u32], blocks: usize) -> usize
+fn alike(x: &[u32], y: &[u32], blocks: usize) -> usize
     requires { (8 * blocks ≤ length x.now) × (8 * blocks ≤ length y.now) }
     ensures { (result ≤ blocks) × (lexlt x.now y.now ≡ lexlt (drop (8 * result) x.now) (drop (8 * result) y.now)) }
 {
@@ -63,7 +63,7 @@ fn alike<'a>(x: &'a [u32], y: &'a [u32], blocks: usize) -> usize
 }
 
 // Whether what follows the first symbols of x is smaller than what follows those of y; `short` is the length of the shorter.
-fn smaller_from<'a>(x: &'a [u32], y: &'a [u32], from: usize, short: usize) -> bool
+fn smaller_from(x: &[u32], y: &[u32], from: usize, short: usize) -> bool
     requires { (from ≤ short) × (short ≡ min (length x.now) (length y.now)) }
     ensures { result ≡ lexlt (drop from x.now) (drop from y.now) }
 {

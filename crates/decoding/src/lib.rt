@@ -60,8 +60,7 @@ pub fn chair_of(table: &[u32]) -> u16
     requires { Shaped table.now }
     ensures { result ≡ chair_of table.now }
 {
-    let rule = rule_of(table, 0);
-    match rule {
+    match rule_of(table, 0) {
         Rule::Symbol(_, beside) => beside as u16,
         Rule::Pair(_, _) => 0,
     }

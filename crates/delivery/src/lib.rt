@@ -53,7 +53,7 @@ pub fn deliver_part(loaded: &LoadedText<'_>, start: usize, count: usize, res: &m
     let Ok(_) = a else {
         return a;
     };
-    write_part(loaded, start, n, res);
+    write_part(start, n, loaded.work, res);
     a
 }
 

@@ -6,7 +6,7 @@ ghost use Rattle.lists.specs.Newest.{has_words};
 ghost use Rattle.dict.specs.Dictionary.{bucket_of, Dict, IsLatest};
 
 // The newest rule with the words x and y.
-pub fn find<'a>(rules: &'a [u32], links: &'a [u32], x: u32, y: u32) -> Option<usize>
+pub fn find(rules: &[u32], links: &[u32], x: u32, y: u32) -> Option<usize>
     requires { (n : ℕ) × Dict rules.now links.now n × (2 * n ≤ length rules.now) × (1024 + n ≤ length links.now) }
     ensures { (n : ℕ) → Dict rules.now links.now n → IsLatest (has_words rules.now x y) n result }
 {

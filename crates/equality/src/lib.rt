@@ -6,7 +6,7 @@ ghost use Rattle.definitions.specs.Words.{same};
 
 // Whether two slices hold the same words. Few are compared one by one; of more the first eight, and then blocks, so that the compiler may compare several
 // words at once. The last block ends with the slice, and may begin inside what is compared before.
-pub fn equal<'a>(x: &'a [u32], y: &'a [u32]) -> bool
+pub fn equal(x: &[u32], y: &[u32]) -> bool
     ensures { result ≡ same x.now y.now }
 {
     let n = x.len();
@@ -26,7 +26,7 @@ pub fn equal<'a>(x: &'a [u32], y: &'a [u32]) -> bool
 }
 
 // Whether their first n words are the same, one after the other, up to the first that differs: `==` of the two fronts would be a call at every test.
-fn equal_front<'a>(x: &'a [u32], y: &'a [u32], n: usize) -> bool
+fn equal_front(x: &[u32], y: &[u32], n: usize) -> bool
     requires { (n ≤ length x.now) × (n ≤ length y.now) }
     ensures { result ≡ same (take n x.now) (take n y.now) }
 {
@@ -39,7 +39,7 @@ fn equal_front<'a>(x: &'a [u32], y: &'a [u32], n: usize) -> bool
 }
 
 // Whether two slices of one length from 16 on hold the same words: blocks of sixteen, up to the first that differs, and the last sixteen.
-fn equal_by_sixteen<'a>(x: &'a [u32], y: &'a [u32]) -> bool
+fn equal_by_sixteen(x: &[u32], y: &[u32]) -> bool
     requires { (length x.now ≡ length y.now) × (16 ≤ length x.now) }
     ensures { result ≡ same x.now y.now }
 {
@@ -54,7 +54,7 @@ fn equal_by_sixteen<'a>(x: &'a [u32], y: &'a [u32]) -> bool
 }
 
 // Whether two slices of one length hold the same words: the loop goes to the end, so that the compiler may compare several words at once.
-pub fn equal_many<'a>(x: &'a [u32], y: &'a [u32]) -> bool
+pub fn equal_many(x: &[u32], y: &[u32]) -> bool
     requires { length x.now ≡ length y.now }
     ensures { result ≡ same x.now y.now }
 {

@@ -32,22 +32,32 @@ pub fn longest_tail(work: &[u32], size: usize, cuts: usize) -> usize
     size - wide(work[CUTS])
 }
 
-// What is found at a join, as it stands in FOUND, and how many tests are made there.
+// What is found at a join, as it stands in FOUND, and how many tests are made up to there.
 #[derive(Clone, Copy)]
 pub struct Tested {
     pub found: u32,
     pub tests: usize,
 }
 
-// Tests the join of two such strings: the pattern is compared at each of its listed cuts where both parts of it
+// Tests the join of two such strings, behind so many tests at other joins: the pattern is compared at each of its listed cuts where both parts of it
 // fit. These stand together in the list, since the cuts rise. At most one occurrence straddles; the cuts behind it are tested all the same, since tests are reported.
-pub fn test_join(work: &[u32], pattern: Placed, at: usize, left: usize, right: usize) -> Tested
-    requires { InWork pattern work.now × (at + left + right ≤ 2048) × (WORK ≤ length work.now) }
-    ensures { Packed (part PATTERN pattern.size work.now) (part at left work.now) (part (at + left) right work.now) result.found × (result.tests ≡ fitting pattern.size left right (part CUTS pattern.cuts work.now)) }
+pub fn test_join(
+    work: &[u32],
+    pattern: Placed,
+    at: usize,
+    left: usize,
+    right: usize,
+    before: usize,
+) -> Tested
+    requires { InWork pattern work.now × (at + left + right ≤ 2048) × (WORK ≤ length work.now) × (before ≤ 65535) }
+    ensures { Packed (part PATTERN pattern.size work.now) (part at left work.now) (part (at + left) right work.now) result.found × (result.tests ≡ before + fitting pattern.size left right (part CUTS pattern.cuts work.now)) }
 {
     let join = at + left;
     let mut i = first_fitting(work, pattern, right);
-    let mut tested = Tested { found: 0, tests: 0 };
+    let mut tested = Tested {
+        found: 0,
+        tests: before,
+    };
     while wide(work[CUTS + i]) <= left {
         tested = test_cut(work, pattern.size, work[CUTS + i], join, tested);
         i += 1;
@@ -58,7 +68,7 @@ pub fn test_join(work: &[u32], pattern: Placed, at: usize, left: usize, right: u
 // Tests one cut more at a join, where both parts of the pattern fit: the pattern, m samples, is compared there, and the test is counted. What is found is PACK and the cut, if the
 // pattern straddles the join there, else what it was.
 fn test_cut(work: &[u32], m: usize, c: u32, join: usize, before: Tested) -> Tested
-    requires { Fitting m c join × (WORK ≤ length work.now) × (before.tests ≤ 11) }
+    requires { Fitting m c join × (WORK ≤ length work.now) × (before.tests ≤ 65546) }
     ensures { (result.found ≡ cond (same (part (join - c) m work.now) (part PATTERN m work.now)) (PACK + c) before.found) × (result.tests ≡ before.tests + 1) }
 {
     let found = if straddles(work, m, wide(c), join) {

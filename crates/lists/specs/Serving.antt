@@ -1,6 +1,6 @@
 -- Calls that serve, by the check that decides: refused by one of the checks (`refused_by`, `refused_front`), or decided by those behind them (`passed`; back: `passed_over`),
 -- in the end by none (`served`; back: `done_passed`, `done_served`). A work slice that is cleared can be lent besides (`worked`), and an answer stated otherwise (`restated`, `said`),
--- or without the number beside the one that success gives (`alone`).
+-- or without the number beside the one that success gives (`search_alone`, `alone_alike`).
 use Rattle.std.specs.Prelude.{◌≡◌, refl, Err, Bool, true, false, cond, ◌⊎◌, List, [], ◌∷◌, ◌++◌, map, ℕ}
 use Rattle.std.proofs.Math.Path.{sym, subst}
 use Rattle.std.proofs.Common.{◌∙◌, ap₂, inl, inr, append_assoc, arith}

@@ -1,4 +1,4 @@
--- Tables without a bad word: each rule is a symbol or two rules before it (`shape`), and spells one symbol or what these two spell
+-- Tables without a bad word: each rule is a symbol or two rules before it (`shape`; of any two words `words_shape`), and spells one symbol or what these two spell
 -- (`symbol_string`, `pair_string`); no rule spells nothing (`string_filled`), and every
 -- symbol is a rank (`string_ranks`).
 use Rattle.std.specs.Prelude.{◌≡◌, Bool, true, false, cond, not, ◌&&◌, ◌||◌, ◌⊎◌, length, ltb, leb, eqb}

@@ -26,7 +26,7 @@ pub fn answer(input: &[u8], out: &mut [u8]) -> usize
 }
 
 // The same, once the drive's table is built.
-fn answer_built<'a>(input: &'a [u8], table: &'a [u32], out: &mut [u8]) -> usize
+fn answer_built(input: &[u8], table: &[u32], out: &mut [u8]) -> usize
     requires { Built input.now table.now × (22551 ≤ length out.old) }
     ensures value { result ≡ length (search_output sample_order input.now) }
     ensures out_after { out.new ≡ placed (search_output sample_order input.now) out.old }
@@ -54,7 +54,7 @@ fn build_drive(input: &[u8], table: &mut [u32]) -> Answer
 }
 
 // Lists where the motif begins in the drive, whose table is handed over. Refuses by 2 and 3.
-fn locate_motif<'a>(input: &'a [u8], table: &'a [u32], positions: &mut [u32]) -> Answer
+fn locate_motif(input: &[u8], table: &[u32], positions: &mut [u32]) -> Answer
     requires { Built input.now table.now × (2047 ≤ length positions.old) }
     ensures { Serves (motif_step input.now positions.old) (Answers result) (positions.new ∷ []) }
 {

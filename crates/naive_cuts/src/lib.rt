@@ -43,7 +43,7 @@ fn is_live(pattern: &[u8], c: usize) -> bool
 }
 
 // Whether the tails x and y agree as far as the shorter one goes, or x is smaller.
-fn not_greater<'a>(x: &'a [u8], y: &'a [u8]) -> bool
+fn not_greater(x: &[u8], y: &[u8]) -> bool
     ensures { result ≡ not_greater_at_difference (map (rank_of sample_order) x.now) (map (rank_of sample_order) y.now) }
 {
     is_prefix(x, y) || is_prefix(y, x) || is_smaller(x, y)
@@ -60,7 +60,7 @@ fn word_again(pattern: &[u8], d: usize, c: usize) -> bool
 }
 
 // Whether x is a prefix of y.
-fn is_prefix<'a>(x: &'a [u8], y: &'a [u8]) -> bool
+fn is_prefix(x: &[u8], y: &[u8]) -> bool
     ensures { result ≡ begins (map (rank_of sample_order) x.now) (map (rank_of sample_order) y.now) }
 {
     y.starts_with(x)

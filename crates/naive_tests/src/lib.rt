@@ -14,7 +14,7 @@ const KIND: u32 = 1073741824;
 const MOST: usize = 4294967295;
 
 // How many tests there are: pairs of a pair rule of the table and a listed cut of a pattern of m samples at which both parts of the pattern fit its halves.
-pub fn count<'a>(table: &'a [u32], cuts: &'a [u32], m: usize) -> usize
+pub fn count(table: &[u32], cuts: &[u32], m: usize) -> usize
     requires { (length table.now ≤ 256) × (length cuts.now ≤ 64) × (m ≤ 2047) }
     ensures { (o : Order) → result ≡ length (tests_below o table.now m cuts.now (rule_count table.now)) }
 {
@@ -26,13 +26,7 @@ pub fn count<'a>(table: &'a [u32], cuts: &'a [u32], m: usize) -> usize
 }
 
 // At how many of the cuts rule r is tested.
-fn tests_of<'a>(
-    table: &'a [u32],
-    lengths: &'a [usize],
-    cuts: &'a [u32],
-    m: usize,
-    r: usize,
-) -> usize
+fn tests_of(table: &[u32], lengths: &[usize], cuts: &[u32], m: usize, r: usize) -> usize
     requires { Measured table.now (rule_count table.now) lengths.now × (m ≤ 2047) × (r < rule_count table.now) }
     ensures { (result ≤ length cuts.now) × ((o : Order) → result ≡ length (tests_of o table.now m cuts.now r)) }
 {
@@ -42,7 +36,7 @@ fn tests_of<'a>(
 }
 
 // Whether rule r is tested at cut c: it is a pair rule, and both parts of the pattern fit its halves.
-fn is_tested<'a>(table: &'a [u32], lengths: &'a [usize], m: usize, r: usize, c: u32) -> bool
+fn is_tested(table: &[u32], lengths: &[usize], m: usize, r: usize, c: u32) -> bool
     requires { Measured table.now (rule_count table.now) lengths.now × (m ≤ 2047) × (r < rule_count table.now) }
     ensures { (o : Order) → result ≡ is_tested o table.now m r c }
 {
@@ -67,7 +61,7 @@ fn measure(table: &[u32], lengths: &mut [usize])
 }
 
 // The length of the string of rule r, once those before it have theirs: a symbol is 1 long, and any other rule as long as its two words' rules together.
-fn length_of<'a>(table: &'a [u32], lengths: &'a [usize], r: usize) -> usize
+fn length_of(table: &[u32], lengths: &[usize], r: usize) -> usize
     requires { Measured table.now r lengths.now × (r < rule_count table.now) }
     ensures { (o : Order) → result ≡ kept (length (string_of o (strings o table.now r) (get_or table.now (2 * r) 0) (get_or table.now (2 * r + 1) 0))) }
 {

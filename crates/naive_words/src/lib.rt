@@ -28,7 +28,7 @@ pub fn is_lyndon(word: &[u8]) -> bool
 }
 
 // Whether the word x is smaller than the word y: at the first different sample, or as a proper prefix.
-pub fn is_smaller<'a>(x: &'a [u8], y: &'a [u8]) -> bool
+pub fn is_smaller(x: &[u8], y: &[u8]) -> bool
     ensures { result ≡ lexlt (map (rank_of sample_order) x.now) (map (rank_of sample_order) y.now) }
 {
     x.iter()

@@ -1,6 +1,8 @@
 // What the programs that try the library print: the lines of their input one by one, bytes, numbers, and refusals. A write that fails is passed over.
 #![tactic(auto)]
 
+ghost use Rattle.std.specs.Prelude.{◌≡◌, Ok, MatchOption, IsErr};
+
 use definitions::Answer;
 use refusals::number_of;
 use std::io::Stdout;
@@ -15,7 +17,9 @@ pub fn each_line<F: Fn(&[u8])>(input: &[u8], f: F)
 }
 
 // What success gives; where the library refuses, its number is printed.
-pub fn told(to: Stdout, a: Answer) -> Option<usize> {
+pub fn told(to: Stdout, a: Answer) -> Option<usize>
+    ensures { MatchOption result (IsErr a) (λ n. a ≡ Ok n) }
+{
     match a {
         Ok(n) => Some(n),
         Err(r) => {

@@ -186,14 +186,14 @@ module _ {m n r : ℕ} {w : List ℕ} (h : CountedBefore m n r w) where
         }
 
     -- the tests are the cuts that fit
-    pub pair_tests : (left right x : ℕ) → left ≡ length_in w u → right ≡ length_in w v → x ≡ fitting m left right (part CUTS n w) → x ≡ length (tests_for h)
-    pair_tests left right x a b e =
+    pub pair_tests : (left right before x : ℕ) → left ≡ length_in w u → right ≡ length_in w v → x ≡ before + fitting m left right (part CUTS n w) → x ≡ before + length (tests_for h)
+    pair_tests left right before x a b e =
         let k = halves_here in
         let t = table_of ord h.text h.chair in
         let cuts = pattern_cuts ord h.samples in
         let made = tests_pair ord t (length h.samples) r cuts k.pair.is_pair_lem in
         let sizes = same_fitting h.counting.size (a ∙ k.left_size ∙ ap length (sym (k.pair.left_half_lem ord))) (b ∙ k.right_size ∙ ap length (sym (k.pair.right_half_lem ord))) (cuts_here h.counting) in
-        e ∙ sizes ∙ sym made
+        e ∙ ap (λ (i : ℕ). before + i) (sizes ∙ sym made)
 
 -- ---- one rule more
 

@@ -15,24 +15,24 @@ use decoding::{Rule, left_in, right_in, rule_in};
 use joins::{Placed, Tested, test_join};
 use layout::{FOUND, PACK, PATTERN};
 
-// What is found in rule r: its occurrences times PACK and the cut at its join; and how many tests are made. A string shorter than the pattern
+// What is found in rule r: its occurrences times PACK and the cut at its join; and how many tests are made then, with those before. A string shorter than the pattern
 // has no occurrence and needs no test; one of two symbols or more is a pair's.
-pub fn found_in(work: &[u32], pattern: Placed, r: usize) -> Tested
-    requires { CountedBefore pattern.size pattern.cuts r work.now × InWork pattern work.now }
-    ensures { (h : CountedBefore pattern.size pattern.cuts r work.now) → FoundFor h result.found × (result.tests ≡ length (tests_for h)) }
+pub fn found_in(work: &[u32], pattern: Placed, r: usize, before: usize) -> Tested
+    requires { CountedBefore pattern.size pattern.cuts r work.now × InWork pattern work.now × (before ≤ 65535) }
+    ensures { (h : CountedBefore pattern.size pattern.cuts r work.now) → FoundFor h result.found × (result.tests ≡ before + length (tests_for h)) }
 {
     if pattern.size < 2 {
-        return untested(found_of_one(work, r));
+        return untested(found_of_one(work, r), before);
     }
     if is_shorter(work, r, pattern.size) {
-        return untested(0);
+        return untested(0, before);
     }
     let u = left_in(work, r);
     let v = right_in(work, r);
     let left = length_of(work, u);
     let right = length_of(work, v);
     let at = place_of(work, r);
-    let joined = test_join(work, pattern, at, left, right);
+    let joined = test_join(work, pattern, at, left, right, before);
     Tested {
         found: found(work, u, v, joined.found),
         tests: joined.tests,
@@ -40,10 +40,13 @@ pub fn found_in(work: &[u32], pattern: Placed, r: usize) -> Tested
 }
 
 // What is found where nothing is tested.
-fn untested(found: u32) -> Tested
-    ensures { (result.found ≡ found) × (result.tests ≡ 0) }
+fn untested(found: u32, before: usize) -> Tested
+    ensures { (result.found ≡ found) × (result.tests ≡ before) }
 {
-    Tested { found, tests: 0 }
+    Tested {
+        found,
+        tests: before,
+    }
 }
 
 // What is found in rule r of a pattern of one sample: it has no cut, and so straddles no join.

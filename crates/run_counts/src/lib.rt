@@ -35,9 +35,9 @@ fn deliver_keys(keys: &[u64], q: usize, runs: &mut [u8], counts: &mut [u32]) -> 
 }
 
 // The same of the runs with these keys, and of these counts, one a run. Neither slice is written before both are judged.
-fn deliver_listed<'a>(
-    listed: &'a [u64],
-    numbers: &'a [u32],
+fn deliver_listed(
+    listed: &[u64],
+    numbers: &[u32],
     q: usize,
     runs: &mut [u8],
     counts: &mut [u32],

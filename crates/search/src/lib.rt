@@ -71,9 +71,9 @@ fn count_rules(work: &mut [u32], pattern: Placed, rules: usize) -> usize
 {
     let mut tests = 0;
     for r in 0..rules {
-        let tested = found_in(work, pattern, r);
+        let tested = found_in(work, pattern, r, tests);
         put(work, FOUND + r, tested.found);
-        tests += tested.tests;
+        tests = tested.tests;
     }
     tests
 }

@@ -1,4 +1,4 @@
-// Small functions on lent slices of words: store, clear, copy; a word as an index.
+// Small functions on lent slices: a word stored, words cleared, entries copied; a word as an index.
 #![tactic(auto)]
 
 ghost use Rattle.std.specs.Prelude.{◌≡◌, ◌≤◌, ◌<◌, length, set, replicate};

@@ -47,14 +47,14 @@ fn copy_rule(r: usize, work: &[u32], res: &mut [u8]) -> usize
     count
 }
 
-// Writes a part of a text that is loaded, `count` samples from `start` on, at the front of a slice.
-pub fn write_part(loaded: &LoadedText<'_>, start: usize, count: usize, res: &mut [u8])
-    requires { (start + count ≤ length loaded.now.held.text) × (count ≤ length res.old) }
-    ensures { res.new ≡ placed (take count (drop start loaded.now.held.text)) res.old }
+// Writes a part of a text that is loaded, `count` samples from `start` on, at the front of a slice. It needs the words alone.
+pub fn write_part(start: usize, count: usize, work: &[u32], res: &mut [u8])
+    requires { (rules : ℕ) × (h : Held sample_order rules work.now) × (start + count ≤ length h.text) × (count ≤ length res.old) }
+    ensures { (rules : ℕ) (h : Held sample_order rules work.now) → start + count ≤ length h.text → res.new ≡ placed (take count (drop start h.text)) res.old }
 {
     let from = 1 + start;
     let end = from + count;
-    write_samples(&loaded.work[from..end], res);
+    write_samples(&work[from..end], res);
 }
 
 // Writes the samples of ranks at the front of a slice.

@@ -23,7 +23,7 @@ impl<'w> LoadedText<'w> {
     // The text that is loaded in these words.
     pub fn new(rules: usize, work: &'w [u32]) -> Self
         requires { Held sample_order rules work.now }
-        ensures { (h : Held sample_order rules work.now) → (result.held.text ≡ h.text) × (result.held.chair ≡ h.chair) }
+        ensures { (h : Held sample_order rules work.now) → (result.held.text ≡ h.text) × (result.held.chair ≡ h.chair) × (result.rules ≡ rules) × (result.work.now ≡ work.now) }
     {
         LoadedText { rules, work }
     }

@@ -31,7 +31,7 @@ fn try_line(to: Stdout, line: &[u8]) {
 }
 
 // Tries a drive and a motif.
-fn try_parts<'a>(to: Stdout, drive: &'a [u8], motif: &'a [u8]) {
+fn try_parts(to: Stdout, drive: &[u8], motif: &[u8]) {
     store(to, Content::Samples, drive, drive, motif);
     cut(to, motif);
     follow(to, drive, motif);
@@ -39,14 +39,14 @@ fn try_parts<'a>(to: Stdout, drive: &'a [u8], motif: &'a [u8]) {
 }
 
 // Rearranges a drive, of at most 63 samples, and stores its steps.
-fn follow<'a>(to: Stdout, drive: &'a [u8], motif: &'a [u8]) {
+fn follow(to: Stdout, drive: &[u8], motif: &[u8]) {
     let mut steps = [7u8; 63];
     let n = count(to, index::to_steps(drive, &mut steps), 63);
     store(to, Content::Steps, &steps[..n], drive, motif);
 }
 
 // Stores the samples of a drive, or its steps, and tries the table.
-fn store<'a>(to: Stdout, content: Content, stored: &'a [u8], drive: &'a [u8], motif: &'a [u8]) {
+fn store(to: Stdout, content: Content, stored: &[u8], drive: &[u8], motif: &[u8]) {
     let mut work = [7u32; 16384];
     let mut table = [7u32; 254];
     let n = count(to, index::build(stored, 0, &mut work, &mut table), 254);
@@ -54,7 +54,7 @@ fn store<'a>(to: Stdout, content: Content, stored: &'a [u8], drive: &'a [u8], mo
 }
 
 // Tries a table of steps or of samples.
-fn try_table<'a>(to: Stdout, content: Content, table: &'a [u32], drive: &'a [u8], motif: &'a [u8]) {
+fn try_table(to: Stdout, content: Content, table: &[u32], drive: &[u8], motif: &[u8]) {
     match content {
         Content::Samples => try_samples(to, table, drive, motif),
         Content::Steps => {
@@ -64,7 +64,7 @@ fn try_table<'a>(to: Stdout, content: Content, table: &'a [u32], drive: &'a [u8]
 }
 
 // Prints the number of rules, searches, measures and checks.
-fn try_samples<'a>(to: Stdout, table: &'a [u32], drive: &'a [u8], motif: &'a [u8]) {
+fn try_samples(to: Stdout, table: &[u32], drive: &[u8], motif: &[u8]) {
     print_number(to, b" rules ", table.len() / 2);
     print_tests(
         to,
@@ -77,13 +77,13 @@ fn try_samples<'a>(to: Stdout, table: &'a [u32], drive: &'a [u8], motif: &'a [u8
 }
 
 // Prints what the library finds, and whether the naive side finds the same in the drive; answers how many tests the library counts.
-fn search<'a>(
+fn search(
     to: Stdout,
     name: &[u8],
     content: Content,
-    table: &'a [u32],
-    drive: &'a [u8],
-    motif: &'a [u8],
+    table: &[u32],
+    drive: &[u8],
+    motif: &[u8],
 ) -> usize {
     let mut work = [7u32; 16384];
     let mut found = [7u32; 64];
@@ -96,7 +96,7 @@ fn search<'a>(
 }
 
 // How many places the naive side finds in the drive, and which. A drive of this program has at most 63 samples.
-fn scan<'a>(content: Content, drive: &'a [u8], motif: &'a [u8], places: &mut [u32; 64]) -> usize {
+fn scan(content: Content, drive: &[u8], motif: &[u8], places: &mut [u32; 64]) -> usize {
     if 63 < drive.len() {
         return 0;
     }
@@ -107,7 +107,7 @@ fn scan<'a>(content: Content, drive: &'a [u8], motif: &'a [u8], places: &mut [u3
 }
 
 // Prints how many tests the library counts, and whether the naive side counts as many. A search for an empty motif is refused.
-fn print_tests<'a>(to: Stdout, tests: usize, table: &'a [u32], motif: &'a [u8]) {
+fn print_tests(to: Stdout, tests: usize, table: &[u32], motif: &[u8]) {
     if !motif.is_empty() {
         print_number(to, b" tests ", tests);
         print_both(to, is_count(tests, table, motif));
@@ -115,7 +115,7 @@ fn print_tests<'a>(to: Stdout, tests: usize, table: &'a [u32], motif: &'a [u8]) 
 }
 
 // Whether the naive side counts so many tests. A motif of this program has at most 63 samples.
-fn is_count<'a>(tests: usize, table: &'a [u32], motif: &'a [u8]) -> bool {
+fn is_count(tests: usize, table: &[u32], motif: &[u8]) -> bool {
     if 63 < motif.len() || 256 < table.len() {
         return false;
     }
@@ -125,7 +125,7 @@ fn is_count<'a>(tests: usize, table: &'a [u32], motif: &'a [u8]) -> bool {
 }
 
 // Measures the Lyndon array.
-fn measure<'a>(to: Stdout, table: &'a [u32], drive: &'a [u8]) {
+fn measure(to: Stdout, table: &[u32], drive: &[u8]) {
     let mut work = [7u32; 16384];
     let mut lengths = [7u32; 64];
     let n = told(to, index::lyndon_array(table, &mut work, &mut lengths));
@@ -133,13 +133,7 @@ fn measure<'a>(to: Stdout, table: &'a [u32], drive: &'a [u8]) {
 }
 
 // Prints the Lyndon array, and whether single calls and the naive side have the same lengths.
-fn print_lengths<'a>(
-    to: Stdout,
-    n: Option<usize>,
-    lengths: &'a [u32; 64],
-    table: &'a [u32],
-    drive: &'a [u8],
-) {
+fn print_lengths(to: Stdout, n: Option<usize>, lengths: &[u32; 64], table: &[u32], drive: &[u8]) {
     if let Some(listed) = n.and_then(|n| lengths.get(..n)) {
         print_list(to, b" lengths", listed);
     }
@@ -149,12 +143,12 @@ fn print_lengths<'a>(
 }
 
 // Whether there are n lengths, each what a single call answers for its position, and what the naive side says.
-fn all_agree<'a>(
+fn all_agree(
     to: Stdout,
     n: Option<usize>,
-    lengths: &'a [u32; 64],
-    table: &'a [u32],
-    drive: &'a [u8],
+    lengths: &[u32; 64],
+    table: &[u32],
+    drive: &[u8],
 ) -> bool {
     if 63 < drive.len() {
         return false;
@@ -168,7 +162,7 @@ fn all_agree<'a>(
 }
 
 // Whether n is what a single call answers for position i, and what the naive side says.
-fn agrees<'a>(to: Stdout, n: usize, i: usize, table: &'a [u32], drive: &'a [u8]) -> bool
+fn agrees(to: Stdout, n: usize, i: usize, table: &[u32], drive: &[u8]) -> bool
     requires { i ≤ length drive.now }
 {
     let mut work = [7u32; 16384];
@@ -189,7 +183,7 @@ fn cut(to: Stdout, motif: &[u8]) {
 }
 
 // Prints the list that the library has, and whether the naive side has the same; nothing where the library has none.
-fn print_compared<'a>(to: Stdout, name: &[u8], list: Option<&'a [u32]>, naive: Option<&'a [u32]>) {
+fn print_compared(to: Stdout, name: &[u8], list: Option<&[u32]>, naive: Option<&[u32]>) {
     if let Some(list) = list {
         print_list(to, name, list);
         print_both(to, naive == Some(list));
@@ -208,7 +202,7 @@ fn judge(to: Stdout, drive: &[u8]) {
 }
 
 // Checks the table of a drive in that profile.
-fn judge_table<'a>(to: Stdout, table: &'a [u32], drive: &'a [u8]) {
+fn judge_table(to: Stdout, table: &[u32], drive: &[u8]) {
     let mut work = [7u32; 16384];
     print_judged(to, index::check_profile(table, &mut work), drive);
 }

@@ -41,7 +41,7 @@ fn link_all(table: &[u32], work: &mut [u32]) -> bool
 }
 
 // Whether rule r is new once those before it are linked.
-fn is_new<'a>(table: &'a [u32], work: &'a [u32], r: usize) -> bool
+fn is_new(table: &[u32], work: &[u32], r: usize) -> bool
     requires { Linked table.now r work.now × (r < rule_count table.now) }
     ensures { (result ≡ true → is_new table.now r ≡ true) × (result ≡ false → (o : Order) → is_table o table.now ≡ false) }
 {

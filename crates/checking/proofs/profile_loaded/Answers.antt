@@ -20,7 +20,7 @@ written text old new n e f =
     ap (take (n - 0)) (f ∙ ap (λ (l : List ℕ). placed l old) all) ∙ ap (λ (k : ℕ). take k (placed text old)) size ∙ placed_front text old
 
 pub write_part-requires : goal.write_part-requires
-write_part-requires c = (omega (arith, c.len-n.ensures), omega (arith, c.len-n.ensures, c.args.loaded.now.held.loaded.kept.stored.short))
+write_part-requires c = (c.args.loaded.now.rules, c.args.loaded.now.held, omega (arith, c.len-n.ensures), omega (arith, c.len-n.ensures, c.args.loaded.now.held.loaded.kept.stored.short))
 
 pub slice_bounds-profile_fits-end : goal.slice_bounds-profile_fits-end
 slice_bounds-profile_fits-end c = omega (arith, c.len-n.ensures, c.args.loaded.now.held.loaded.kept.stored.short)
@@ -28,5 +28,6 @@ slice_bounds-profile_fits-end c = omega (arith, c.len-n.ensures, c.args.loaded.n
 pub returns : goal.returns
 unfolding profile_checks first_met
 returns c =
-    let text = written c.args.loaded.now.held.text _ c.write_part.new.res c.len-n.result c.len-n.ensures c.write_part.ensures in
+    let text = written c.args.loaded.now.held.text _ c.write_part.new.res c.len-n.result c.len-n.ensures
+    (c.write_part.ensures c.args.loaded.now.rules c.args.loaded.now.held (omega (arith, c.len-n.ensures))) in
     subst (λ (x : List ℕ). outcome_of c.profile_fits.result ≡ answered (profile_checks false x) (length x)) text c.profile_fits.ensures

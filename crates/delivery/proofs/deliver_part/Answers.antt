@@ -29,6 +29,8 @@ write_part-requires c =
     let h = a.loaded.now.held in
     let old = a.res.now in
     let d = piece_size h.text old a.start a.count c.len.result c.len.ensures c.range_fits-range.result c.range_fits-range.ensures c.in-Ok.is in (
+      a.loaded.now.rules,
+      h,
       range_fits h.text old a.start a.count c.len.result c.len.ensures c.range_fits-range.result c.range_fits-range.ensures c.in-Ok.is,
       omega (arith, d, list_fits (take a.count (drop a.start h.text)) old _ d c.result_fits-a.result c.result_fits-a.ensures c.in-Ok-a.is),
     )
@@ -39,7 +41,8 @@ returns c =
     let h = a.loaded.now.held in
     let old = a.res.now in
     let d = piece_size h.text old a.start a.count c.len.result c.len.ensures c.range_fits-range.result c.range_fits-range.ensures c.in-Ok.is in
+    let fits = range_fits h.text old a.start a.count c.len.result c.len.ensures c.range_fits-range.result c.range_fits-range.ensures c.in-Ok.is in
     let same = piece_same h.text old a.start a.count c.len.result c.len.ensures c.range_fits-range.result c.range_fits-range.ensures c.in-Ok.is in
     part_served h.text old a.start a.count c.len.result c.len.ensures c.range_fits-range.result c.range_fits-range.ensures c.in-Ok.is
     (list_written (take a.count (drop a.start h.text)) old _ d c.result_fits-a.result c.result_fits-a.ensures c.write_part.new.res c.in-Ok-a.is
-    (c.write_part.ensures ∙ ap (λ (l : List ℕ). placed l old) same))
+    (c.write_part.ensures a.loaded.now.rules h fits ∙ ap (λ (l : List ℕ). placed l old) same))

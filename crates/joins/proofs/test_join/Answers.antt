@@ -41,7 +41,7 @@ bounds-work-i c =
 pub test_cut-tested-requires : goal.test_cut-tested-requires
 test_cut-tested-requires c =
     let (low, some, less, short, tail) = cut_here (goal.at.test_cut-tested-requires c).In-loop-pattern in
-    (record { some = some; inside = less; short = c.requires.0.tried.short; front = omega (arith, c.loop-pattern.invariant.0); tail = omega (arith, c.loop-pattern.invariant.0, c.requires.1) }, c.requires.2, omega (arith, low, c.loop-pattern.invariant.5, c.requires.0.tried.few))
+    (record { some = some; inside = less; short = c.requires.0.tried.short; front = omega (arith, c.loop-pattern.invariant.0); tail = omega (arith, c.loop-pattern.invariant.0, c.requires.1) }, c.requires.2, omega (arith, low, c.loop-pattern.invariant.5, c.requires.0.tried.few, c.requires.3))
 
 pub loop-pattern-preserved : goal.loop-pattern-preserved
 loop-pattern-preserved c =

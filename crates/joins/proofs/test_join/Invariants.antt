@@ -14,8 +14,8 @@ invariant-loop-pattern l = (l.join ≡ l.at + l.left)
     × (l.i ≤ l.fn.pattern.cuts)
     × ((j : ℕ) → l.i ≤ j → j < l.fn.pattern.cuts → l.fn.pattern.size - get_or l.work (CUTS + j) 0 ≤ l.right)
     × Sought l.work l.fn.pattern.size l.at l.left l.right l.i l.tested.found
-    × (l.tested.tests ≡ fitting l.fn.pattern.size l.left l.right (part CUTS l.i l.work))
-    × (l.tested.tests ≤ l.i)
+    × (l.tested.tests ≡ l.before + fitting l.fn.pattern.size l.left l.right (part CUTS l.i l.work))
+    × (l.tested.tests ≤ l.before + l.i)
 
 abbrev pub decreases-loop-pattern : goal.decreases-loop-pattern
 decreases-loop-pattern l = l.fn.pattern.cuts - l.i

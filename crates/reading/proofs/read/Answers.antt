@@ -31,5 +31,5 @@ pub returns : goal.returns
 unfolding read_service opened_held
 returns c =
     let x = succeeded (goal.at.returns c).In-Ok in
-    let (text, chair) = c.new-loaded.ensures (opened_held x) in
+    let (text, chair, _, _) = c.new-loaded.ensures (opened_held x) in
     opening_served x (refl, refl) c.clear_front.ensures (rw (← text, ← chair) c.read_loaded-r.ensures)

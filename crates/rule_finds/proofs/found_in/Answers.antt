@@ -62,7 +62,7 @@ known c = pair_known c.requires.0 c.left_in-u.result c.right_in-v.result (is_pai
 pub test_join-joined-requires : goal.test_join-joined-requires
 test_join-joined-requires c =
     let h = c.requires.0 in
-    (c.requires.1, omega (arith, (known (goal.at.test_join-joined-requires c).After-right_in-v).inside, c.place_of-at.ensures, c.length_of-right.ensures, c.length_of-left.ensures), (turn_known h).long)
+    (c.requires.1, omega (arith, (known (goal.at.test_join-joined-requires c).After-right_in-v).inside, c.place_of-at.ensures, c.length_of-right.ensures, c.length_of-left.ensures), (turn_known h).long, c.requires.2)
 
 packed_small : (x : ℕ) → x / PACK ≡ min 1 (x % PACK) → x < 2 * PACK
 packed_small x e = omega arith
@@ -78,7 +78,7 @@ returns c h =
     let packed = c.test_join-joined.ensures.0 in (
       pair_found h c.left_in-u.result c.right_in-v.result (is_pair_lem (goal.at.returns c).After-right_in-v) c.place_of-at.result c.length_of-left.result c.length_of-right.result (x % PACK) c.found.result
           c.place_of-at.ensures c.length_of-left.ensures c.length_of-right.ensures packed.cut (omega (arith, c.found.ensures.0, packed.number)) c.found.ensures.1,
-      pair_tests h c.left_in-u.result c.right_in-v.result (is_pair_lem (goal.at.returns c).After-right_in-v) c.length_of-left.result c.length_of-right.result c.test_join-joined.result.tests
+      pair_tests h c.left_in-u.result c.right_in-v.result (is_pair_lem (goal.at.returns c).After-right_in-v) c.length_of-left.result c.length_of-right.result _ c.test_join-joined.result.tests
           c.length_of-left.ensures c.length_of-right.ensures c.test_join-joined.ensures.1,
     )
 

@@ -1,10 +1,10 @@
 -- `count_rules` counts rule after rule. The loop's invariant: whatever text is loaded, the rules before r are counted, by so many tests; the cuts stay as they are.
-use mathlib.Core.Path.{sym, ◌∙◌, ap}
-use Prim.Native.Nat.{ℕ, ◌+◌, ◌<◌}
+use mathlib.Core.Path.{sym, ◌∙◌}
+use Prim.Native.Nat.{ℕ, ◌<◌}
 use native.Mathlib.Omega.{arith}
 use Rattle.lyndon.specs.Stored.{rule_range}
-use Rattle.rule_finds.proofs.Counting.{Counted, counted_none, counted_turn, counted_end, few_tests, longest_kept}
-use Rattle.search.proofs.count_rules.Goals.{Start, After-put}
+use Rattle.rule_finds.proofs.Counting.{counted_none, counted_turn, counted_end, few_tests, longest_kept}
+use Rattle.search.proofs.count_rules.Goals.{Start}
 use Rattle.search.proofs.count_rules.Goals as goal
 
 -- rule r of those that are counted
@@ -28,6 +28,7 @@ found_in-tested-requires c =
         low = omega (arith, h.size, c.loop-r-test.true);
       },
       record { tried = counting.tried; longest = c.loop-r.invariant.1 },
+      omega (arith, few_tests a.pattern.size a.pattern.cuts a.rules c.loop-r.r c.loop-r.tests a.work.now c.loop-r.work h c.loop-r.invariant.0, low (goal.at.found_in-tested-requires c).Start c.loop-r.r c.loop-r-test.true),
     )
 
 pub overflow_add-r : goal.overflow_add-r
@@ -38,27 +39,15 @@ pub put-requires : goal.put-requires
 put-requires c =
     omega (arith, low (goal.at.put-requires c).Start c.loop-r.r c.loop-r-test.true, c.loop-r.auto.work, c.requires.0.counting.loaded.kept.long)
 
--- one rule more is counted, by so many tests more
-more : (k : After-put) → let a = k.args in
-    Counted a.pattern.size a.pattern.cuts a.rules (k.loop-r.r + 1) (k.loop-r.tests + k.found_in-tested.result.tests) a.work.now k.put.new.s
-more k =
-    let a = k.args in
-    counted_turn a.pattern.size a.pattern.cuts a.rules k.loop-r.r k.loop-r.tests _ a.work.now k.loop-r.work k.put.new.s k.found_in-tested.result.found
-    k.loop-r-test.true k.loop-r.invariant.0 (λ h. let (found, tests) = k.found_in-tested.ensures h in (found, ap (λ (n : ℕ). k.loop-r.tests + n) tests)) k.put.ensures
-
-pub overflow_add-tests : goal.overflow_add-tests
-overflow_add-tests c =
-    let a = c.args in
-    let k = goal.at.overflow_add-tests c in
-    omega (arith, low k.Start c.loop-r.r c.loop-r-test.true, few_tests a.pattern.size a.pattern.cuts a.rules (c.loop-r.r + 1) _ a.work.now c.put.new.s c.requires.0 (more k.After-put))
-
 pub loop-r-preserved : goal.loop-r-preserved
 loop-r-preserved c =
     let a = c.args in
-    let k = goal.at.loop-r-preserved c in (
-      more k.After-put,
-      c.loop-r.invariant.1
-          ∙ sym (longest_kept a.pattern.size a.pattern.cuts c.loop-r.r c.loop-r.work c.put.new.s c.found_in-tested.result.found (low k.Start c.loop-r.r c.loop-r-test.true) c.put.ensures),
+    let m = a.pattern.size in
+    let n = a.pattern.cuts in
+    let x = c.found_in-tested.result.found in (
+      counted_turn m n a.rules c.loop-r.r c.loop-r.tests c.found_in-tested.result.tests a.work.now c.loop-r.work c.put.new.s x
+          c.loop-r-test.true c.loop-r.invariant.0 c.found_in-tested.ensures c.put.ensures,
+      c.loop-r.invariant.1 ∙ sym (longest_kept m n c.loop-r.r c.loop-r.work c.put.new.s x (low (goal.at.loop-r-preserved c).Start c.loop-r.r c.loop-r-test.true) c.put.ensures),
     )
 
 pub returns : goal.returns

@@ -10,17 +10,18 @@ use Rattle.spelling.proofs.write_part.Goals as goal
 
 -- the part ends in the work slice
 inside : (s : Start) → 1 + s.args.start + s.args.count ≤ 2048
-inside s = omega (arith, s.requires.0, s.args.loaded.now.held.loaded.kept.stored.short)
+inside s = let (rules, h, fits, room) = s.requires in omega (arith, fits, h.loaded.kept.stored.short)
 
 pub write_samples-requires : goal.write_samples-requires
 write_samples-requires c =
-    let piece = loaded_piece c.args.loaded.now.held c.args.start c.args.count c.requires.0 in
-    (piece.ranks, omega (arith, piece.size, c.requires.1))
+    let (rules, h, fits, room) = c.requires in
+    let piece = loaded_piece h c.args.start c.args.count fits in
+    (piece.ranks, omega (arith, piece.size, room))
 
 pub returns : goal.returns
-returns c =
+returns c rules h fits =
     let a = c.args in
-    c.write_samples.ensures ∙ ap (λ (l : List ℕ). placed l a.res.now) (loaded_piece a.loaded.now.held a.start a.count c.requires.0).same
+    c.write_samples.ensures ∙ ap (λ (l : List ℕ). placed l a.res.now) (loaded_piece h a.start a.count fits).same
 
 pub overflow_add-from : goal.overflow_add-from
 overflow_add-from c = omega (arith, inside (goal.at.overflow_add-from c).Start)
@@ -29,4 +30,4 @@ pub overflow_add-end : goal.overflow_add-end
 overflow_add-end c = omega (arith, inside (goal.at.overflow_add-end c).Start)
 
 pub slice_bounds-write_samples-end : goal.slice_bounds-write_samples-end
-slice_bounds-write_samples-end c = omega (arith, inside (goal.at.slice_bounds-write_samples-end c).Start, c.args.loaded.now.held.loaded.kept.long)
+slice_bounds-write_samples-end c = omega (arith, inside (goal.at.slice_bounds-write_samples-end c).Start, c.requires.1.loaded.kept.long)
