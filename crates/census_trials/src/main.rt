@@ -8,25 +8,27 @@ ghost use Rattle.std.specs.Prelude.{◌≤◌, ◌<◌, length};
 use census::census;
 use naive_census::distinct_runs;
 use naive_words::is_smaller;
-use printing::{each_line, print, print_number, told};
+use printing::{print_number, told};
 use standard_input::read_front;
-use std::io::Stdout;
+use std::io::{Stdout, Write};
 
 // Reads at most 4,096 bytes. A write that fails is passed over.
 fn main(rt: HostRuntime) {
     let mut input = [0u8; 4096];
     let n = read_front(&mut rt.stdin(), &mut input);
-    let to = rt.stdout();
-    each_line(&input[..n], |line| try_line(to, line));
+    let to = &mut rt.stdout();
+    for line in input[..n].split_inclusive(|byte| *byte == b'\n') {
+        try_line(to, line.strip_suffix(b"\n").unwrap_or(line));
+    }
 }
 
 // Tries one line.
-fn try_line(to: Stdout, line: &[u8]) {
-    print(to, line);
+fn try_line(to: &mut Stdout, line: &[u8]) {
+    let _ = to.write_all(line);
     if let Some((first, drive)) = line.split_first() {
         try_drive(to, digit(*first), drive);
     }
-    print(to, b"\n");
+    let _ = to.write_all(b"\n");
 }
 
 // What a digit means.
@@ -35,7 +37,7 @@ fn digit(b: u8) -> usize {
 }
 
 // Builds the table of a drive, and tries it.
-fn try_drive(to: Stdout, q: usize, drive: &[u8]) {
+fn try_drive(to: &mut Stdout, q: usize, drive: &[u8]) {
     let mut work = [7u32; 16384];
     let mut table = [7u32; 254];
     let n = told(to, index::build(drive, 0, &mut work, &mut table));
@@ -45,7 +47,7 @@ fn try_drive(to: Stdout, q: usize, drive: &[u8]) {
 }
 
 // Takes the census of a table.
-fn try_table(to: Stdout, q: usize, table: &[u32], drive: &[u8]) {
+fn try_table(to: &mut Stdout, q: usize, table: &[u32], drive: &[u8]) {
     let mut work = [7u32; 16384];
     let mut runs = [7u8; 512];
     let mut counts = [7u32; 64];
@@ -56,34 +58,34 @@ fn try_table(to: Stdout, q: usize, table: &[u32], drive: &[u8]) {
 }
 
 // Prints a census, and whether the naive sides say the same.
-fn print_census(to: Stdout, q: usize, runs: &[u8], counts: &[u32], drive: &[u8])
+fn print_census(to: &mut Stdout, q: usize, runs: &[u8], counts: &[u32], drive: &[u8])
     requires { length counts.now ≤ 64 }
 {
-    print_number(to, b" runs ", counts.len());
+    let _ = print_number(to, b" runs ", counts.len());
     if q == 0 || 8 < q {
         return;
     }
     print_runs(to, q, runs, counts);
     if is_census(q, runs, counts, drive) {
-        print(to, b" by both");
+        let _ = to.write_all(b" by both");
     }
 }
 
 // Prints each run and its count.
-fn print_runs(to: Stdout, q: usize, runs: &[u8], counts: &[u32])
+fn print_runs(to: &mut Stdout, q: usize, runs: &[u8], counts: &[u32])
     requires { 0 < q }
 {
     for (run, count) in runs.chunks_exact(q).zip(counts) {
         print_samples(to, run);
-        print_number(to, b" x", *count as usize);
+        let _ = print_number(to, b" x", *count as usize);
     }
 }
 
 // Prints the samples of a run.
-fn print_samples(to: Stdout, run: &[u8]) {
-    print(to, b";");
+fn print_samples(to: &mut Stdout, run: &[u8]) {
+    let _ = to.write_all(b";");
     for sample in run {
-        print_number(to, b" ", *sample as usize);
+        let _ = print_number(to, b" ", *sample as usize);
     }
 }
 

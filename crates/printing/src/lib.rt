@@ -1,41 +1,35 @@
-// What the programs that try the library print: the lines of their input one by one, bytes, numbers, and refusals. A write that fails is passed over.
+// What the programs that try the library print besides text: numbers, and refusals by their numbers.
 #![tactic(auto)]
 
-ghost use Rattle.std.specs.Prelude.{◌≡◌, Ok, MatchOption, IsErr};
+ghost use Rattle.std.specs.Prelude.{◌≡◌, ◌++◌, Ok, MatchOption, IsErr, OnOk};
+ghost use Rattle.std.specs.Io.KnownBytes.{Appends};
+ghost use Rattle.definitions.specs.Programs.{decimal};
 
+use decimals::put_decimal;
 use definitions::Answer;
 use refusals::number_of;
-use std::io::Stdout;
+use std::io;
+use std::io::Write;
 
-// Calls f with each line of the input, without the byte 10 that ends it.
-pub fn each_line<F: Fn(&[u8])>(input: &[u8], f: F)
-    requires { F.IsAlwaysCallable f }
-{
-    for line in input.split_inclusive(|byte| *byte == b'\n') {
-        f(line.strip_suffix(b"\n").unwrap_or(line));
-    }
-}
-
-// What success gives; where the library refuses, its number is printed.
-pub fn told(to: Stdout, a: Answer) -> Option<usize>
+// What success gives; where the library refuses, its number is printed, and a write that fails is passed over.
+pub fn told<W: Write>(to: &mut W, a: Answer) -> Option<usize>
     ensures { MatchOption result (IsErr a) (λ n. a ≡ Ok n) }
 {
     match a {
         Ok(n) => Some(n),
         Err(r) => {
-            print_number(to, b" refused ", number_of(r) as usize);
+            let _ = print_number(to, b" refused ", number_of(r) as usize);
             None
         }
     }
 }
 
-// Prints bytes and a number.
-pub fn print_number(to: Stdout, name: &[u8], n: usize) {
-    print(to, name);
-    let _ = print!(to; "{n}");
-}
-
-// Prints bytes.
-pub fn print(to: Stdout, s: &[u8]) {
-    let _ = to.write_all(s);
+// Prints bytes and a number in decimal.
+pub fn print_number<W: Write>(to: &mut W, name: &[u8], n: usize) -> io::Result<()>
+    ensures { OnOk result (Appends (W.contents to.old) (W.contents to.new) (name.now ++ decimal n)) }
+{
+    let mut digits = [0u8; 11];
+    let count = put_decimal(n, b' ', &mut digits) - 1;
+    to.write_all(name)?;
+    to.write_all(&digits[..count])
 }

@@ -8,30 +8,32 @@ ghost use Rattle.std.specs.Prelude.{◌≤◌, length};
 use definitions::{Answer, Content, Refusal};
 use naive_profile::{is_profile, lowest_off};
 use naive_words::longest_at;
-use printing::{each_line, print, print_number, told};
+use printing::{print_number, told};
 use refusals::{number_of, place_of};
 use standard_input::read_front;
-use std::io::Stdout;
+use std::io::{Stdout, Write};
 
 // Reads at most 4,096 bytes. A write that fails is passed over.
 fn main(rt: HostRuntime) {
     let mut input = [0u8; 4096];
     let n = read_front(&mut rt.stdin(), &mut input);
-    let to = rt.stdout();
-    each_line(&input[..n], |line| try_line(to, line));
+    let to = &mut rt.stdout();
+    for line in input[..n].split_inclusive(|byte| *byte == b'\n') {
+        try_line(to, line.strip_suffix(b"\n").unwrap_or(line));
+    }
 }
 
 // Tries one line: its drive ends at the first space.
-fn try_line(to: Stdout, line: &[u8]) {
-    print(to, line);
+fn try_line(to: &mut Stdout, line: &[u8]) {
+    let _ = to.write_all(line);
     if let Some(end) = line.iter().position(|byte| *byte == b' ') {
         try_parts(to, &line[..end], &line[end + 1..]);
     }
-    print(to, b"\n");
+    let _ = to.write_all(b"\n");
 }
 
 // Tries a drive and a motif.
-fn try_parts(to: Stdout, drive: &[u8], motif: &[u8]) {
+fn try_parts(to: &mut Stdout, drive: &[u8], motif: &[u8]) {
     store(to, Content::Samples, drive, drive, motif);
     cut(to, motif);
     follow(to, drive, motif);
@@ -39,14 +41,14 @@ fn try_parts(to: Stdout, drive: &[u8], motif: &[u8]) {
 }
 
 // Rearranges a drive, of at most 63 samples, and stores its steps.
-fn follow(to: Stdout, drive: &[u8], motif: &[u8]) {
+fn follow(to: &mut Stdout, drive: &[u8], motif: &[u8]) {
     let mut steps = [7u8; 63];
     let n = count(to, index::to_steps(drive, &mut steps), 63);
     store(to, Content::Steps, &steps[..n], drive, motif);
 }
 
 // Stores the samples of a drive, or its steps, and tries the table.
-fn store(to: Stdout, content: Content, stored: &[u8], drive: &[u8], motif: &[u8]) {
+fn store(to: &mut Stdout, content: Content, stored: &[u8], drive: &[u8], motif: &[u8]) {
     let mut work = [7u32; 16384];
     let mut table = [7u32; 254];
     let n = count(to, index::build(stored, 0, &mut work, &mut table), 254);
@@ -54,7 +56,7 @@ fn store(to: Stdout, content: Content, stored: &[u8], drive: &[u8], motif: &[u8]
 }
 
 // Tries a table of steps or of samples.
-fn try_table(to: Stdout, content: Content, table: &[u32], drive: &[u8], motif: &[u8]) {
+fn try_table(to: &mut Stdout, content: Content, table: &[u32], drive: &[u8], motif: &[u8]) {
     match content {
         Content::Samples => try_samples(to, table, drive, motif),
         Content::Steps => {
@@ -64,21 +66,17 @@ fn try_table(to: Stdout, content: Content, table: &[u32], drive: &[u8], motif: &
 }
 
 // Prints the number of rules, searches, measures and checks.
-fn try_samples(to: Stdout, table: &[u32], drive: &[u8], motif: &[u8]) {
-    print_number(to, b" rules ", table.len() / 2);
-    print_tests(
-        to,
-        search(to, b" found", Content::Samples, table, drive, motif),
-        table,
-        motif,
-    );
+fn try_samples(to: &mut Stdout, table: &[u32], drive: &[u8], motif: &[u8]) {
+    let _ = print_number(to, b" rules ", table.len() / 2);
+    let tests = search(to, b" found", Content::Samples, table, drive, motif);
+    print_tests(to, tests, table, motif);
     measure(to, table, drive);
     judge_table(to, table, drive);
 }
 
 // Prints what the library finds, and whether the naive side finds the same in the drive; answers how many tests the library counts.
 fn search(
-    to: Stdout,
+    to: &mut Stdout,
     name: &[u8],
     content: Content,
     table: &[u32],
@@ -107,9 +105,9 @@ fn scan(content: Content, drive: &[u8], motif: &[u8], places: &mut [u32; 64]) ->
 }
 
 // Prints how many tests the library counts, and whether the naive side counts as many. A search for an empty motif is refused.
-fn print_tests(to: Stdout, tests: usize, table: &[u32], motif: &[u8]) {
+fn print_tests(to: &mut Stdout, tests: usize, table: &[u32], motif: &[u8]) {
     if !motif.is_empty() {
-        print_number(to, b" tests ", tests);
+        let _ = print_number(to, b" tests ", tests);
         print_both(to, is_count(tests, table, motif));
     }
 }
@@ -125,7 +123,7 @@ fn is_count(tests: usize, table: &[u32], motif: &[u8]) -> bool {
 }
 
 // Measures the Lyndon array.
-fn measure(to: Stdout, table: &[u32], drive: &[u8]) {
+fn measure(to: &mut Stdout, table: &[u32], drive: &[u8]) {
     let mut work = [7u32; 16384];
     let mut lengths = [7u32; 64];
     let n = told(to, index::lyndon_array(table, &mut work, &mut lengths));
@@ -133,18 +131,24 @@ fn measure(to: Stdout, table: &[u32], drive: &[u8]) {
 }
 
 // Prints the Lyndon array, and whether single calls and the naive side have the same lengths.
-fn print_lengths(to: Stdout, n: Option<usize>, lengths: &[u32; 64], table: &[u32], drive: &[u8]) {
+fn print_lengths(
+    to: &mut Stdout,
+    n: Option<usize>,
+    lengths: &[u32; 64],
+    table: &[u32],
+    drive: &[u8],
+) {
     if let Some(listed) = n.and_then(|n| lengths.get(..n)) {
         print_list(to, b" lengths", listed);
     }
     if all_agree(to, n, lengths, table, drive) {
-        print(to, b" by all");
+        let _ = to.write_all(b" by all");
     }
 }
 
 // Whether there are n lengths, each what a single call answers for its position, and what the naive side says.
 fn all_agree(
-    to: Stdout,
+    to: &mut Stdout,
     n: Option<usize>,
     lengths: &[u32; 64],
     table: &[u32],
@@ -162,7 +166,7 @@ fn all_agree(
 }
 
 // Whether n is what a single call answers for position i, and what the naive side says.
-fn agrees(to: Stdout, n: usize, i: usize, table: &[u32], drive: &[u8]) -> bool
+fn agrees(to: &mut Stdout, n: usize, i: usize, table: &[u32], drive: &[u8]) -> bool
     requires { i ≤ length drive.now }
 {
     let mut work = [7u32; 16384];
@@ -171,7 +175,7 @@ fn agrees(to: Stdout, n: usize, i: usize, table: &[u32], drive: &[u8]) -> bool
 }
 
 // Prints the cuts of a motif, and whether the naive side lists the same.
-fn cut(to: Stdout, motif: &[u8]) {
+fn cut(to: &mut Stdout, motif: &[u8]) {
     if 63 < motif.len() {
         return;
     }
@@ -183,7 +187,7 @@ fn cut(to: Stdout, motif: &[u8]) {
 }
 
 // Prints the list that the library has, and whether the naive side has the same; nothing where the library has none.
-fn print_compared(to: Stdout, name: &[u8], list: Option<&[u32]>, naive: Option<&[u32]>) {
+fn print_compared(to: &mut Stdout, name: &[u8], list: Option<&[u32]>, naive: Option<&[u32]>) {
     if let Some(list) = list {
         print_list(to, name, list);
         print_both(to, naive == Some(list));
@@ -191,7 +195,7 @@ fn print_compared(to: Stdout, name: &[u8], list: Option<&[u32]>, naive: Option<&
 }
 
 // Builds a drive in the nine-heading profile.
-fn judge(to: Stdout, drive: &[u8]) {
+fn judge(to: &mut Stdout, drive: &[u8]) {
     let mut work = [7u32; 16384];
     let mut table = [7u32; 254];
     print_judged(
@@ -202,21 +206,21 @@ fn judge(to: Stdout, drive: &[u8]) {
 }
 
 // Checks the table of a drive in that profile.
-fn judge_table(to: Stdout, table: &[u32], drive: &[u8]) {
+fn judge_table(to: &mut Stdout, table: &[u32], drive: &[u8]) {
     let mut work = [7u32; 16384];
     print_judged(to, index::check_profile(table, &mut work), drive);
 }
 
 // Prints what building or checking answers in the profile, and whether the naive side says the same of the drive.
-fn print_judged(to: Stdout, a: Answer, drive: &[u8]) {
+fn print_judged(to: &mut Stdout, a: Answer, drive: &[u8]) {
     match a {
         Ok(_) => {
-            print(to, b" profile");
+            let _ = to.write_all(b" profile");
             print_both(to, is_profile(drive));
         }
         Err(refusal) => {
-            print_number(to, b" refused ", number_of(refusal) as usize);
-            print_number(to, b" at ", place_of(refusal));
+            let _ = print_number(to, b" refused ", number_of(refusal) as usize);
+            let _ = print_number(to, b" at ", place_of(refusal));
             print_both(to, is_refusal(refusal, drive));
         }
     }
@@ -233,23 +237,23 @@ fn is_refusal(refusal: Refusal, drive: &[u8]) -> bool {
 }
 
 // Prints bytes and the entries of a list.
-fn print_list(to: Stdout, name: &[u8], list: &[u32]) {
-    print(to, name);
+fn print_list(to: &mut Stdout, name: &[u8], list: &[u32]) {
+    let _ = to.write_all(name);
     for entry in list {
-        print_number(to, b" ", *entry as usize);
+        let _ = print_number(to, b" ", *entry as usize);
     }
 }
 
 // What success gives, at most `room`; 0 where the library refuses.
-fn count(to: Stdout, a: Answer, room: usize) -> usize
+fn count(to: &mut Stdout, a: Answer, room: usize) -> usize
     ensures { result ≤ room }
 {
     told(to, a).unwrap_or(0).min(room)
 }
 
 // Prints whether the naive side says the same.
-fn print_both(to: Stdout, same: bool) {
+fn print_both(to: &mut Stdout, same: bool) {
     if same {
-        print(to, b" by both");
+        let _ = to.write_all(b" by both");
     }
 }
