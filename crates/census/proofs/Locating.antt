@@ -9,24 +9,19 @@ use lib.Seq.{drop_at}
 use borrow.Author.Tests.{le-ltb}
 use Rattle.definitions.specs.declared.Order.{Order}
 use Rattle.definitions.specs.declared.Content.TheVariants.{Samples}
-use Rattle.std.specs.declared.result.Result.TheVariants.{Ok, Err}
+use Rattle.std.specs.declared.result.Result.TheVariants.{Ok}
 use Rattle.definitions.specs.declared.Search.{Search}
 use Rattle.definitions.specs.Words.{placed}
 use Rattle.definitions.specs.Table.{text_of}
 use Rattle.definitions.specs.Occurrences.{occurrences, tests}
 use Rattle.definitions.specs.Steps.{finds, searched}
 use Rattle.definitions.specs.Services.{Answer, Outcome, Check, done, refused, outcome_of, alone, outcome, slices_after, work_slice, cleared, pattern_empty, pattern_too_long, result_too_short, pattern_checks, search_checks, table_checks, locate_service, Serves, Searches}
+use Rattle.lists.specs.Refusals.{same_answer}
 use Rattle.lists.specs.Decisions.{First, later, Passed, more, none, decide, first_decides, passed_all, first_before, both_passed}
 use Rattle.lyndon.specs.Occurrences.{occurrences_fewer}
 use Rattle.census.specs.Accepted.{accepted}
 use Rattle.census.specs.Samples.{Tried, turned_down, tried_done, done_tried, Begun, SoFar, number_below, put_all, number_none, number_more, so_far_none, so_far_more, so_far_all}
 use Rattle.census.specs.Samples as samples
-
--- an outcome that is done has one answer
-done_answer : (r : Answer) (n : ℕ) → outcome_of r ≡ done n 0 → r ≡ Ok n
-unfolding outcome_of
-done_answer (Ok m) n e = let q : m ≡ n = cc in ap Ok q
-done_answer (Err f) n e = absurd (let z : ◌≡◌ {A = ℕ} 0 1 = cc in omega arith)
 
 module _ (o : Order) (t work old : List ℕ) (b : ℕ) (room : length old ≡ 2047) where
   abbrev places : List ℕ
@@ -44,7 +39,7 @@ module _ (o : Order) (t work old : List ℕ) (b : ℕ) (room : length old ≡ 20
 
   pub located : (r : Search) (after new : List ℕ) → Serves (locate_service o t Samples (b ∷ []) work old) (Searches r) (after ∷ new ∷ [])
       → Tried o t work after (length places) (new ≡ placed places old) r.answer
-  unfolding locate_service search_checks pattern_checks finds searched outcome slices_after alone
+  unfolding locate_service search_checks pattern_checks finds searched outcome slices_after outcome_of alone
   located r after new v = go (decide (table_checks o t (length work)))
     where
       go : ((d : Check) × First d (table_checks o t (length work))) ⊎ Passed (table_checks o t (length work)) → Tried o t work after (length places) (new ≡ placed places old) r.answer
@@ -61,7 +56,7 @@ module _ (o : Order) (t work old : List ℕ) (b : ℕ) (room : length old ≡ 20
           let said : outcome_of r.answer ≡ done (length places) 0 = v.answer.answer ∙ ap alone (passed_all (λ c. refused c.number c.place) success full) in
           let left : after ≡ cleared work = ap (λ (l : List (List ℕ)). get_or l 0 []) v.slices ∙ passed_all (work_slice work).if_refused (cleared work) full in
           let written : new ≡ placed places old = ap (λ (l : List (List ℕ)). get_or l 1 []) v.slices ∙ passed_all (λ c. old) (placed places old) full in
-          samples.done p left written (done_answer r.answer (length places) said)
+          samples.done p left written (same_answer r.answer (Ok (length places)) said)
 
 -- ---- sample 0, and the others
 
