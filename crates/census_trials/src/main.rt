@@ -6,9 +6,11 @@
 ghost use Rattle.std.specs.Prelude.{◌≤◌, ◌<◌, length};
 
 use census::census;
+use definitions::Answer;
 use naive_census::distinct_runs;
 use naive_words::is_smaller;
-use printing::{print_number, told};
+use printing::{put_number, told};
+use refusals::number_of;
 use standard_input::read_front;
 use std::io::{Stdout, Write};
 
@@ -40,7 +42,7 @@ fn digit(b: u8) -> usize {
 fn try_drive(to: &mut Stdout, q: usize, drive: &[u8]) {
     let mut work = [7u32; 16384];
     let mut table = [7u32; 254];
-    let n = told(to, index::build(drive, 0, &mut work, &mut table));
+    let n = answered(to, index::build(drive, 0, &mut work, &mut table));
     if let Some(table) = n.and_then(|n| table.get(..n)) {
         try_table(to, q, table, drive);
     }
@@ -51,7 +53,7 @@ fn try_table(to: &mut Stdout, q: usize, table: &[u32], drive: &[u8]) {
     let mut work = [7u32; 16384];
     let mut runs = [7u8; 512];
     let mut counts = [7u32; 64];
-    match told(to, census(table, q, &mut work, &mut runs, &mut counts)) {
+    match answered(to, census(table, q, &mut work, &mut runs, &mut counts)) {
         Some(n) if n <= 64 => print_census(to, q, &runs, &counts[..n], drive),
         _ => {}
     }
@@ -61,7 +63,7 @@ fn try_table(to: &mut Stdout, q: usize, table: &[u32], drive: &[u8]) {
 fn print_census(to: &mut Stdout, q: usize, runs: &[u8], counts: &[u32], drive: &[u8])
     requires { length counts.now ≤ 64 }
 {
-    let _ = print_number(to, b" runs ", counts.len());
+    print_number(to, b" runs ", counts.len());
     if q == 0 || 8 < q {
         return;
     }
@@ -77,7 +79,7 @@ fn print_runs(to: &mut Stdout, q: usize, runs: &[u8], counts: &[u32])
 {
     for (run, count) in runs.chunks_exact(q).zip(counts) {
         print_samples(to, run);
-        let _ = print_number(to, b" x", *count as usize);
+        print_number(to, b" x", *count as usize);
     }
 }
 
@@ -85,8 +87,26 @@ fn print_runs(to: &mut Stdout, q: usize, runs: &[u8], counts: &[u32])
 fn print_samples(to: &mut Stdout, run: &[u8]) {
     let _ = to.write_all(b";");
     for sample in run {
-        let _ = print_number(to, b" ", *sample as usize);
+        print_number(to, b" ", *sample as usize);
     }
+}
+
+// What success gives; where the library refuses, its number is printed.
+fn answered(to: &mut Stdout, a: Answer) -> Option<usize> {
+    if let Err(refusal) = a {
+        print_number(to, b" refused ", number_of(refusal) as usize);
+    }
+    told(a)
+}
+
+// Prints bytes, few of them, and a number.
+fn print_number(to: &mut Stdout, name: &[u8], n: usize)
+    requires { length name.now ≤ 21 }
+{
+    let mut bytes = [0u8; 32];
+    let count = put_number(name, n, &mut bytes);
+    let _ = to.write_all(&bytes[..name.len()]);
+    let _ = to.write_all(&bytes[name.len()..count]);
 }
 
 // Whether the naive sides say that these runs and counts are the census of the drive.

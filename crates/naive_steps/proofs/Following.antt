@@ -16,11 +16,17 @@ use Rattle.definitions.specs.Steps.{step, steps_of, step_finds}
 use Rattle.lists.specs.Bools.{contra, not_so, and_left, and_right, and_intro}
 use Rattle.lists.specs.Numbers.{split_le, split_lt}
 use Rattle.lists.specs.Strings.{begins_entries, entries_begin}
-use Rattle.lyndon.specs.Steps.{steps_at, steps_size}
+use Rattle.lyndon.specs.Steps.{steps_size}
+
+step_behind : (a : ℕ) (x : List ℕ) (j : ℕ) → j < length x → get_or (steps_of (a ∷ x)) j 0 ≡ step (get_or (a ∷ x) j 0) (get_or x j 0)
+unfolding steps_of
+step_behind a [] j h = absurd (omega arith)
+step_behind a (b ∷ x) zero h = refl
+step_behind a (b ∷ x) (suc j) h = step_behind b x j (omega arith)
 
 step_after : (x : List ℕ) (j : ℕ) → j + 1 < length x → get_or (steps_of x) j 0 ≡ step (get_or x j 0) (get_or x (j + 1) 0)
 step_after [] j h = absurd (omega arith)
-step_after (a ∷ x) j h = rw add-one (steps_at a x j (omega arith))
+step_after (a ∷ x) j h = rw add-one (step_behind a x j (omega arith))
 
 step_before : (x : List ℕ) (k : ℕ) → 1 ≤ k → k < length x → get_or (steps_of x) (k - 1) 0 ≡ step (get_or x (k - 1) 0) (get_or x k 0)
 step_before x k a h =

@@ -19,13 +19,14 @@ pub fn clear(s: &mut [u32])
     s.fill(0);
 }
 
-// Copies all of a slice to the front of another.
-#[tactic(auto, unfolding(definitions::specs::Words::placed))]
+// Copies all of a slice to the front of another. A loop, and not the library's method, which would call a function from outside.
 pub fn copy<T: Copy>(from: &[T], to: &mut [T])
     requires { length from.now ≤ length to.old }
     ensures { to.new ≡ placed from.now to.old }
 {
-    to[..from.len()].copy_from_slice(from);
+    for (i, entry) in from.iter().enumerate() {
+        to[i] = *entry;
+    }
 }
 
 // A word as an index.

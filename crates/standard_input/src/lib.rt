@@ -1,9 +1,9 @@
 // Standard input, as the programs read it: to its end, or until a slice is full.
 #![tactic(auto)]
 
-ghost use Rattle.std.specs.Prelude.{◌≤◌, IfOk, length, take};
+ghost use Rattle.std.specs.Prelude.{◌≡◌, ◌≤◌, IfOk, length, take};
 ghost use Rattle.std.specs.Io.KnownBytes.{Consumes};
-ghost use Rattle.standard_input.specs.Reading.{HasRead};
+ghost use Rattle.standard_input.specs.Reading.{HasRead, answer_at};
 
 use std::io;
 use std::io::Read;
@@ -16,13 +16,22 @@ pub fn read_input<R: Read>(reader: &mut R, input: &mut [u8]) -> io::Result<usize
 {
     let mut n = 0;
     while n < input.len() {
-        let more = reader.read(&mut input[n..])?;
+        let got = reader.read(&mut input[n..]);
+        let more = got.unwrap_or(0);
         if more == 0 {
-            return Ok(n);
+            return ended(got, n);
         }
         n += more;
     }
     Ok(n)
+}
+
+// What is answered once a read gave no byte, n bytes behind it: the read failed, where it answered an error, or the input ended there.
+#[tactic(auto, unfolding(crate::specs::Reading::answer_at))]
+fn ended(got: io::Result<usize>, n: usize) -> io::Result<usize>
+    ensures { result ≡ answer_at got n }
+{
+    got.map(|_| n)
 }
 
 // Reads until the slice is full, the input ends or a read fails, and answers how many bytes were read.

@@ -8,7 +8,7 @@ ghost use Rattle.std.specs.Prelude.{◌≤◌, length};
 use definitions::{Answer, Content, Refusal};
 use naive_profile::{is_profile, lowest_off};
 use naive_words::longest_at;
-use printing::{print_number, told};
+use printing::{put_number, told};
 use refusals::{number_of, place_of};
 use standard_input::read_front;
 use std::io::{Stdout, Write};
@@ -67,7 +67,7 @@ fn try_table(to: &mut Stdout, content: Content, table: &[u32], drive: &[u8], mot
 
 // Prints the number of rules, searches, measures and checks.
 fn try_samples(to: &mut Stdout, table: &[u32], drive: &[u8], motif: &[u8]) {
-    let _ = print_number(to, b" rules ", table.len() / 2);
+    print_number(to, b" rules ", table.len() / 2);
     let tests = search(to, b" found", Content::Samples, table, drive, motif);
     print_tests(to, tests, table, motif);
     measure(to, table, drive);
@@ -88,8 +88,8 @@ fn search(
     let mut scanned = [7u32; 64];
     let m = scan(content, drive, motif, &mut scanned);
     let s = index::locate(table, content, motif, &mut work, &mut found);
-    let n = told(to, s.answer);
-    print_compared(to, name, n.and_then(|n| found.get(..n)), scanned.get(..m));
+    let n = answered(to, s.answer);
+    print_compared(to, name, n, &found, m, &scanned);
     s.tests
 }
 
@@ -107,7 +107,7 @@ fn scan(content: Content, drive: &[u8], motif: &[u8], places: &mut [u32; 64]) ->
 // Prints how many tests the library counts, and whether the naive side counts as many. A search for an empty motif is refused.
 fn print_tests(to: &mut Stdout, tests: usize, table: &[u32], motif: &[u8]) {
     if !motif.is_empty() {
-        let _ = print_number(to, b" tests ", tests);
+        print_number(to, b" tests ", tests);
         print_both(to, is_count(tests, table, motif));
     }
 }
@@ -126,7 +126,7 @@ fn is_count(tests: usize, table: &[u32], motif: &[u8]) -> bool {
 fn measure(to: &mut Stdout, table: &[u32], drive: &[u8]) {
     let mut work = [7u32; 16384];
     let mut lengths = [7u32; 64];
-    let n = told(to, index::lyndon_array(table, &mut work, &mut lengths));
+    let n = answered(to, index::lyndon_array(table, &mut work, &mut lengths));
     print_lengths(to, n, &lengths, table, drive);
 }
 
@@ -170,7 +170,7 @@ fn agrees(to: &mut Stdout, n: usize, i: usize, table: &[u32], drive: &[u8]) -> b
     requires { i ≤ length drive.now }
 {
     let mut work = [7u32; 16384];
-    let k = told(to, index::lyndon_length(table, i, &mut work));
+    let k = answered(to, index::lyndon_length(table, i, &mut work));
     k == Some(n) && n == longest_at(drive, i)
 }
 
@@ -181,16 +181,23 @@ fn cut(to: &mut Stdout, motif: &[u8]) {
     }
     let mut cuts = [7u32; 64];
     let mut listed = [7u32; 64];
-    let n = told(to, index::live_cuts(motif, &mut cuts));
+    let n = answered(to, index::live_cuts(motif, &mut cuts));
     let m = naive_cuts::list(motif, &mut listed);
-    print_compared(to, b" cuts", n.and_then(|n| cuts.get(..n)), listed.get(..m));
+    print_compared(to, b" cuts", n, &cuts, m, &listed);
 }
 
-// Prints the list that the library has, and whether the naive side has the same; nothing where the library has none.
-fn print_compared(to: &mut Stdout, name: &[u8], list: Option<&[u32]>, naive: Option<&[u32]>) {
-    if let Some(list) = list {
-        print_list(to, name, list);
-        print_both(to, naive == Some(list));
+// Prints the list of n entries that the library has, and whether it is that of m entries that the naive side has, what stands behind them too; nothing where the library has none.
+fn print_compared(
+    to: &mut Stdout,
+    name: &[u8],
+    n: Option<usize>,
+    list: &[u32; 64],
+    m: usize,
+    naive: &[u32; 64],
+) {
+    if let Some(listed) = n.and_then(|n| list.get(..n)) {
+        print_list(to, name, listed);
+        print_both(to, n == Some(m) && list == naive);
     }
 }
 
@@ -219,8 +226,8 @@ fn print_judged(to: &mut Stdout, a: Answer, drive: &[u8]) {
             print_both(to, is_profile(drive));
         }
         Err(refusal) => {
-            let _ = print_number(to, b" refused ", number_of(refusal) as usize);
-            let _ = print_number(to, b" at ", place_of(refusal));
+            print_number(to, b" refused ", number_of(refusal) as usize);
+            print_number(to, b" at ", place_of(refusal));
             print_both(to, is_refusal(refusal, drive));
         }
     }
@@ -240,7 +247,7 @@ fn is_refusal(refusal: Refusal, drive: &[u8]) -> bool {
 fn print_list(to: &mut Stdout, name: &[u8], list: &[u32]) {
     let _ = to.write_all(name);
     for entry in list {
-        let _ = print_number(to, b" ", *entry as usize);
+        print_number(to, b" ", *entry as usize);
     }
 }
 
@@ -248,7 +255,7 @@ fn print_list(to: &mut Stdout, name: &[u8], list: &[u32]) {
 fn count(to: &mut Stdout, a: Answer, room: usize) -> usize
     ensures { result ≤ room }
 {
-    told(to, a).unwrap_or(0).min(room)
+    answered(to, a).unwrap_or(0).min(room)
 }
 
 // Prints whether the naive side says the same.
@@ -256,4 +263,22 @@ fn print_both(to: &mut Stdout, same: bool) {
     if same {
         let _ = to.write_all(b" by both");
     }
+}
+
+// What success gives; where the library refuses, its number is printed.
+fn answered(to: &mut Stdout, a: Answer) -> Option<usize> {
+    if let Err(refusal) = a {
+        print_number(to, b" refused ", number_of(refusal) as usize);
+    }
+    told(a)
+}
+
+// Prints bytes, few of them, and a number.
+fn print_number(to: &mut Stdout, name: &[u8], n: usize)
+    requires { length name.now ≤ 21 }
+{
+    let mut bytes = [0u8; 32];
+    let count = put_number(name, n, &mut bytes);
+    let _ = to.write_all(&bytes[..name.len()]);
+    let _ = to.write_all(&bytes[name.len()..count]);
 }

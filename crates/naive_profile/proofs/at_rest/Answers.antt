@@ -1,14 +1,18 @@
--- `at_rest` looks at the first byte, and then at the last.
-use mathlib.Core.Path.{refl, ◌∙◌}
-use Rattle.naive_profile.proofs.Judging.{zero_at, first_other, first_zero}
+-- `at_rest` tests one part of its definition after the other.
+use native.Mathlib.Omega.{arith}
+use lib.ListN.{length, get_or}
+use borrow.Author.Tests.{lt-ltb, le-ltb, eq-eqb, ne_eqb}
+use Rattle.definitions.specs.Profile.{at_rest}
 use Rattle.naive_profile.proofs.at_rest.Goals as goal
 
-pub returns-then-eq : goal.returns-then-eq
-returns-then-eq c =
-    let first = c.eq.ensures ∙ zero_at c.args.drive.now 0 c.first.result _ refl c.first.ensures.value in
-    first_zero c.args.drive.now c.eq.result first c.if-eq.true c.eq-then-eq.result (c.eq-then-eq.ensures ∙ zero_at c.args.drive.now _ c.last.result _ refl c.last.ensures.value)
+pub returns-then-n-eq0 : goal.returns-then-n-eq0
+unfolding at_rest
+returns-then-n-eq0 c = rw (le-ltb 0 (length c.args.drive.now) (omega arith))
 
-pub returns-else-eq : goal.returns-else-eq
-returns-else-eq c =
-    let first = c.eq.ensures ∙ zero_at c.args.drive.now 0 c.first.result _ refl c.first.ensures.value in
-    first_other c.args.drive.now c.eq.result first c.if-eq.false
+pub returns-then-drive-eq0 : goal.returns-then-drive-eq0
+unfolding at_rest
+returns-then-drive-eq0 c = rw (lt-ltb 0 (length c.args.drive.now) (omega arith), eq-eqb (get_or c.args.drive.now 0 0) 0 c.if-drive-eq0.true)
+
+pub returns-else-drive-eq0 : goal.returns-else-drive-eq0
+unfolding at_rest
+returns-else-drive-eq0 c = rw (lt-ltb 0 (length c.args.drive.now) (omega arith), ne_eqb (get_or c.args.drive.now 0 0) 0 c.if-drive-eq0.false)
