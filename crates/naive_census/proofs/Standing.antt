@@ -1,7 +1,7 @@
 -- A run stands among the runs of a text exactly where it begins somewhere in it (`found_stands`), so the runs that are left from a place on are one fewer behind
 -- it where the run there begins nowhere behind it, and else as many (`next_later`, `next_counted`), and the places counted are as many (`counted_from`).
 use mathlib.Core.Path.{◌≡◌, refl, sym, ◌∙◌, ap, ap₂, subst}
-use mathlib.Core.Bool.{Bool, true, false, cond, not, ◌&&◌, ◌||◌, false≢true}
+use mathlib.Core.Bool.{Bool, true, false, cond, not, ◌||◌, false≢true}
 use mathlib.Core.Logic.{⊎_elim}
 use mathlib.Core.List.Memᴰ.{tail as there}
 use mathlib.Core.List.{List, [], ◌∷◌, ◌++◌, map, Memᴰ as In}
@@ -10,8 +10,8 @@ use native.Mathlib.Omega.{arith}
 use native.Mathlib.Numerals.{add-one}
 use lib.ListN.{length, take, drop, get_or, length-map, length-take, length-drop}
 use lib.Seq.{drop-cons}
-use lib.Dec.{ltb, leb}
-use borrow.Author.Tests.{lt-ltb, le-leb, lt-leb}
+use lib.Dec.{ltb}
+use borrow.Author.Tests.{lt-ltb}
 use Rattle.std.specs.List.{filter, range_with_len}
 use Rattle.definitions.specs.declared.Order.{Order}
 use Rattle.definitions.specs.Words.{below, same, begins}
@@ -125,20 +125,17 @@ module _ (o : Order) (q : ℕ) (text : List ℕ) where
 
 -- ---- the places counted
 
--- the test of a place as code makes it: a run stands there, and at no later place
+-- the test of a place as code makes it: the run there stands at no later place
 abbrev pub is_counted : ℕ → List ℕ → ℕ → Bool
-is_counted q text i = leb q (length text - i) && not (ltb 0 (length (occurrences (take q (drop i text)) (drop (i + 1) text))))
+is_counted q text i = not (ltb 0 (length (occurrences (take q (drop i text)) (drop (i + 1) text))))
 
-pub counted_from : (o : Order) (q : ℕ) (text : List ℕ) → 0 < q → Bytes text → (i n : ℕ) → i + n ≡ length text → length (filter (is_counted q text) (range_with_len i n)) ≡ left o q text i
+pub counted_from : (o : Order) (q : ℕ) (text : List ℕ) → 0 < q → Bytes text → (i n : ℕ) → i + n ≡ length text + 1 - q → length (filter (is_counted q text) (range_with_len i n)) ≡ left o q text i
 counted_from o q text some bytes i zero e = sym (left_none o q text i (omega arith))
 counted_from o q text some bytes i (suc n) e =
-    split_le q (length text - i)
-    (λ h. go (ltb 0 (length (occurrences (take q (drop i text)) (drop (i + 1) text)))) refl h (counted_from o q text some bytes (i + 1) n (omega arith)))
-    (λ h. rw (lt-leb q (length text - i) h)
-    (counted_from o q text some bytes (i + 1) n (omega arith) ∙ left_none o q text (i + 1) (omega arith) ∙ sym (left_none o q text i h)))
+    go (ltb 0 (length (occurrences (take q (drop i text)) (drop (i + 1) text)))) refl (counted_from o q text some bytes (i + 1) n (omega arith))
   where
-    go : (b : Bool) → ltb 0 (length (occurrences (take q (drop i text)) (drop (i + 1) text))) ≡ b → q ≤ length text - i
+    go : (b : Bool) → ltb 0 (length (occurrences (take q (drop i text)) (drop (i + 1) text))) ≡ b
         → length (filter (is_counted q text) (range_with_len (i + 1) n)) ≡ left o q text (i + 1)
         → length (filter (is_counted q text) (i ∷ range_with_len (i + 1) n)) ≡ left o q text i
-    go true f h ih = rw (le-leb q (length text - i) h, f) (ih ∙ sym (next_later o q text i some (omega arith) bytes true (sym f) refl))
-    go false f h ih = rw (le-leb q (length text - i) h, f) (ap suc ih ∙ sym (next_counted o q text i some (omega arith) bytes false (sym f) refl))
+    go true f ih = rw f (ih ∙ sym (next_later o q text i some (omega (arith, some, e)) bytes true (sym f) refl))
+    go false f ih = rw f (ap suc ih ∙ sym (next_counted o q text i some (omega (arith, some, e)) bytes false (sym f) refl))

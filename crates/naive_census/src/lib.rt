@@ -13,8 +13,8 @@ pub fn distinct_runs(drive: &[u8], q: usize) -> usize
     requires { (length drive.now ≤ 2047) × (0 < q) }
     ensures { result ≡ length (census_runs sample_order q drive.now) }
 {
-    (0..drive.len())
-        .filter(|i| q <= drive.len() - *i && !stands_later(drive, *i, q))
+    (0..(drive.len() + 1).saturating_sub(q))
+        .filter(|i| !stands_later(drive, *i, q))
         .count()
 }
 

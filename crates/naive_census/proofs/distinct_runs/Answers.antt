@@ -1,7 +1,6 @@
 -- `distinct_runs` counts the places at which a run stands that stands at no later place: as many as there are distinct runs.
 use mathlib.Core.Path.{refl, ◌∙◌}
 use native.Mathlib.Omega.{arith}
-use lib.ListN.{length}
 use borrow.Author.Tests.{tests}
 use Rattle.std.proofs.Common.{rules}
 use Rattle.std.proofs.lemmas.Iterator.{YieldsList-from_range}
@@ -15,7 +14,8 @@ pub returns : goal.returns
 returns c =
     let drive = c.args.drive.now in
     let q = c.args.q in
+    let n = c.saturating_sub.result in
     count_from_yields_List c.filter.result c.count.result c.count.ensures.ran
-    (YieldsList-from_filter _ (is_counted q drive) (YieldsList-at c.filter.ensures.source (YieldsList-from_range 0 (length drive) (length drive) refl (omega arith))) c.filter.ensures.closure (λ x b q k. search (rules, tests)))
-    ∙ counted_from sample_order q drive c.requires.1 (slice_bytes drive (λ j h. omega (arith, c.type_inv.drive j))) 0 (length drive) (omega arith)
+    (YieldsList-from_filter _ (is_counted q drive) (YieldsList-at c.filter.ensures.source (YieldsList-from_range 0 n n refl (omega arith))) c.filter.ensures.closure (λ x b q k. search (rules, tests)))
+    ∙ counted_from sample_order q drive c.requires.1 (slice_bytes drive (λ j h. omega (arith, c.type_inv.drive j))) 0 n (omega (arith, c.saturating_sub.ensures))
     ∙ left_all sample_order q drive
