@@ -5,7 +5,7 @@ use Rattle.printing.proofs.put_number.Goals as goal
 
 pub overflow_sub-result : goal.overflow_sub-result
 overflow_sub-result c =
-    omega (arith, (before_end c.args.name.now c.args.n c.args.out.now c.put_named.new.out c.put_named.result c.put_named.ensures.value c.put_named.ensures.out_after).0)
+    omega (arith, (before_end _ _ _ _ _ c.put_named.ensures.value c.put_named.ensures.out_after).0)
 
 pub returns : goal.returns
 returns c =
