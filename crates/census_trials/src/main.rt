@@ -99,7 +99,7 @@ fn answered(to: &mut Stdout, a: Answer) -> Option<usize> {
     told(a)
 }
 
-// Prints bytes, few of them, and a number.
+// Prints a name, of at most 21 bytes, and then a number: a write that fails is passed over.
 fn print_number(to: &mut Stdout, name: &[u8], n: usize)
     requires { length name.now ≤ 21 }
 {

@@ -18,6 +18,7 @@ use Rattle.lists.specs.Numbers.{split_le, split_lt}
 use Rattle.lists.specs.Strings.{begins_entries, entries_begin}
 use Rattle.lyndon.specs.Steps.{steps_size}
 
+-- the step behind each sample but the last, shown here since a naive side rests on its own laws
 step_behind : (a : ℕ) (x : List ℕ) (j : ℕ) → j < length x → get_or (steps_of (a ∷ x)) j 0 ≡ step (get_or (a ∷ x) j 0) (get_or x j 0)
 unfolding steps_of
 step_behind a [] j h = absurd (omega arith)

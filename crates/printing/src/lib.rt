@@ -1,8 +1,9 @@
 // What the programs that try the library print besides text, which they write themselves: a number behind its name, as bytes; what success gives.
 #![tactic(auto)]
 
-ghost use Rattle.std.specs.Prelude.{◌≡◌, ◌++◌, ◌+◌, ◌≤◌, length, take, Ok, MatchOption, IsErr};
-ghost use Rattle.definitions.specs.Programs.{decimal};
+ghost use Rattle.std.specs.Prelude.{◌≡◌, ◌++◌, ◌+◌, ◌≤◌, length, Ok, MatchOption, IsErr};
+ghost use Rattle.definitions.specs.Words.{placed};
+ghost use Rattle.definitions.specs.Programs.{decimal, named};
 
 use definitions::Answer;
 use lines::put_named;
@@ -17,11 +18,12 @@ pub fn told(a: Answer) -> Option<usize>
     }
 }
 
-// Bytes and a number in decimal at the front of a slice. Answers how many bytes they are.
+// Bytes and a number in decimal at the front of a slice, the end of a line behind them. Answers how many bytes they are without it.
 pub fn put_number(name: &[u8], n: usize, out: &mut [u8]) -> usize
     requires { length name.now + 11 ≤ length out.old }
+    ensures value { result ≡ length (name.now ++ decimal n) }
     ensures fits { (length name.now ≤ result) × (result ≤ length out.new) }
-    ensures bytes { take result out.new ≡ name.now ++ decimal n }
+    ensures out_after { out.new ≡ placed (named name.now n) out.old }
 {
     put_named(name, n, out) - 1
 }
