@@ -1,12 +1,16 @@
 // What the programs that try the library print besides text, which they write themselves: a number behind its name, as bytes; what success gives.
+// A caller that ends where a write fails has it written by `print_number`.
 #![tactic(auto)]
 
-ghost use Rattle.std.specs.Prelude.{◌≡◌, ◌++◌, ◌+◌, ◌≤◌, length, Ok, MatchOption, IsErr};
+ghost use Rattle.std.specs.Prelude.{◌≡◌, ◌++◌, ◌+◌, ◌≤◌, length, Ok, MatchOption, IsErr, OnOk};
+ghost use Rattle.std.specs.Io.KnownBytes.{Appends};
 ghost use Rattle.definitions.specs.Words.{placed};
 ghost use Rattle.definitions.specs.Programs.{decimal, named};
 
 use definitions::Answer;
 use lines::put_named;
+use std::io;
+use std::io::Write;
 
 // What success gives.
 pub fn told(a: Answer) -> Option<usize>
@@ -26,4 +30,33 @@ pub fn put_number(name: &[u8], n: usize, out: &mut [u8]) -> usize
     ensures out_after { out.new ≡ placed (named name.now n) out.old }
 {
     put_named(name, n, out) - 1
+}
+
+// Writes bytes, of any length, and a number in decimal, and ends at the first write that fails.
+pub fn print_number<W: Write>(to: &mut W, name: &[u8], n: usize) -> io::Result<()>
+    ensures { OnOk result (Appends (W.contents to.old) (W.contents to.new) (name.now ++ decimal n)) }
+{
+    let mut room = [0u8; 11];
+    let count = put_number(b"", n, &mut room);
+    let digits = &room[..count];
+    to.write_all(name)?;
+    to.write_all(digits)
+}
+
+#[cfg(test)]
+mod tests {
+    use super::*;
+    use std::io::Cursor;
+
+    // Written behind what stands there, however long the name; a writer without room is told.
+    #[test]
+    fn prints_numbers(rt: HostRuntime) {
+        let mut to = Cursor::new([b'-'; 64]);
+        assert!(rt; print_number(&mut to, b"found ", 0).is_ok());
+        assert!(rt; print_number(&mut to, b" of all the places in the drive ", 2047).is_ok());
+        assert!(rt; print_number(&mut to, b"", 4294967295).is_ok());
+        let want = b"found 0 of all the places in the drive 20474294967295-";
+        assert_eq!(rt; &to.get_ref()[..54], want.as_slice());
+        assert!(rt; print_number(&mut to, b" found ", 1000000).is_err());
+    }
 }
