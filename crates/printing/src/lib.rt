@@ -32,7 +32,7 @@ pub fn put_number(name: &[u8], n: usize, out: &mut [u8]) -> usize
     put_named(name, n, out) - 1
 }
 
-// Writes bytes, of any length, and a number in decimal, and ends at the first write that fails.
+// Writes bytes, of any length, and a number of up to ten digits in decimal, and ends at the first write that fails.
 pub fn print_number<W: Write>(to: &mut W, name: &[u8], n: usize) -> io::Result<()>
     ensures { OnOk result (Appends (W.contents to.old) (W.contents to.new) (name.now ++ decimal n)) }
 {
@@ -46,7 +46,25 @@ pub fn print_number<W: Write>(to: &mut W, name: &[u8], n: usize) -> io::Result<(
 #[cfg(test)]
 mod tests {
     use super::*;
-    use std::io::Cursor;
+    use std::io::{Cursor, ErrorKind};
+
+    // A writer whose first write fails, and how many were tried.
+    #[derive(Drop)]
+    struct Failing(usize);
+
+    impl Write for Failing {
+        fn write(&mut self, buf: &[u8]) -> io::Result<usize> {
+            self.0 = self.0.saturating_add(1);
+            if self.0 == 1 {
+                return Err(ErrorKind::BrokenPipe.into());
+            }
+            Ok(buf.len())
+        }
+
+        fn flush(&mut self) -> io::Result<()> {
+            Ok(())
+        }
+    }
 
     // Written behind what stands there, however long the name; a writer without room is told.
     #[test]
@@ -58,5 +76,13 @@ mod tests {
         let want = b"found 0 of all the places in the drive 20474294967295-";
         assert_eq!(rt; &to.get_ref()[..54], want.as_slice());
         assert!(rt; print_number(&mut to, b" found ", 1000000).is_err());
+    }
+
+    // Nothing is written behind a name that was not.
+    #[test]
+    fn ends_where_a_write_fails(rt: HostRuntime) {
+        let mut to = Failing(0);
+        assert!(rt; print_number(&mut to, b"found ", 2).is_err());
+        assert_eq!(rt; to.0, 1);
     }
 }
